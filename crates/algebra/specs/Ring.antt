@@ -3,10 +3,12 @@
 --   CommRing                 a commutative ring with 1
 --   Decides, Cancels, Nontrivial, Inverts    what some theorems ask for besides
 --   RingRelation             a relation between two rings that every operation keeps; a homomorphism is one
-use mathlib.Core.Path.{_≡_, refl, sym, ap, _∙_}
+use mathlib.Core.Path.{_≡_, sym, ap, _∙_}
 use mathlib.Core.Logic.{_≢_, _⊎_, inl, inr}
-use Prim.Native.Nat.{ℕ, zero, suc}
+use Prim.Native.Nat.{ℕ, zero, suc, _+_}
+use native.Mathlib.Nat.{suc-add, zero-add as nat-zero-add}
 
+-- A commutative ring with 1.
 pub record CommRing : Type 1 where
   infixl 60 _⊕_
   infixl 70 _⊗_
@@ -41,6 +43,7 @@ module _ (R : CommRing) where
   abbrev pub Cancels : Type 0
   Cancels = (a b : C) → a ≢ 𝟘 → a ⊗ b ≡ 𝟘 → b ≡ 𝟘
 
+  -- 1 is not 0.
   abbrev pub Nontrivial : Type 0
   Nontrivial = 𝟙 ≢ 𝟘
 
@@ -58,6 +61,7 @@ module _ (R : CommRing) where
   power a zero = 𝟙
   power a (suc n) = a ⊗ power a n
 
+  -- The laws of 0, 1 and distribution on the other side.
   pub zero-add : (a : C) → 𝟘 ⊕ a ≡ a
   zero-add a = add-comm 𝟘 a ∙ add-zero a
 
@@ -70,11 +74,16 @@ module _ (R : CommRing) where
   pub add-mul : (a b c : C) → (a ⊕ b) ⊗ c ≡ a ⊗ c ⊕ b ⊗ c
   add-mul a b c = rw (mul-comm (a ⊕ b) c, mul-comm a c, mul-comm b c) (mul-add c a b)
 
+  -- Terms and factors change places.
   pub add-left-comm : (a b c : C) → a ⊕ (b ⊕ c) ≡ b ⊕ (a ⊕ c)
   add-left-comm a b c = sym (add-assoc a b c) ∙ ap (λ x. x ⊕ c) (add-comm a b) ∙ add-assoc b a c
 
   pub mul-left-comm : (a b c : C) → a ⊗ (b ⊗ c) ≡ b ⊗ (a ⊗ c)
   mul-left-comm a b c = sym (mul-assoc a b c) ∙ ap (λ x. x ⊗ c) (mul-comm a b) ∙ mul-assoc b a c
+
+  pub add-add-comm : (a b c d : C) → a ⊕ b ⊕ (c ⊕ d) ≡ a ⊕ c ⊕ (b ⊕ d)
+  add-add-comm a b c d =
+      add-assoc a b (c ⊕ d) ∙ ap (λ x. a ⊕ x) (add-left-comm b c d) ∙ sym (add-assoc a c (b ⊕ d))
 
   -- What is added to both sides is cancelled.
   pub add-cancel : (a b c : C) → a ⊕ c ≡ b ⊕ c → a ≡ b
@@ -87,18 +96,21 @@ module _ (R : CommRing) where
   pub neg-unique : (a b : C) → a ⊕ b ≡ 𝟘 → a ≡ ⊖ b
   neg-unique a b h = add-cancel a (⊖ b) b (h ∙ sym (neg-add b))
 
+  -- Two elements are equal exactly if their difference is 0.
   pub eq-of-sub : (a b : C) → a ⊕ ⊖ b ≡ 𝟘 → a ≡ b
   eq-of-sub a b h = add-cancel a b (⊖ b) (h ∙ sym (add-neg b))
 
   pub sub-of-eq : (a b : C) → a ≡ b → a ⊕ ⊖ b ≡ 𝟘
   sub-of-eq a b h = rw h (add-neg b)
 
+  -- A product with 0 is 0.
   pub mul-zero : (a : C) → a ⊗ 𝟘 ≡ 𝟘
   mul-zero a = add-cancel (a ⊗ 𝟘) 𝟘 (a ⊗ 𝟘) (sym (mul-add a 𝟘 𝟘) ∙ ap (λ x. a ⊗ x) (add-zero 𝟘) ∙ sym (zero-add (a ⊗ 𝟘)))
 
   pub zero-mul : (a : C) → 𝟘 ⊗ a ≡ 𝟘
   zero-mul a = mul-comm 𝟘 a ∙ mul-zero a
 
+  -- Negatives of 0, of negatives, of products and of sums.
   pub neg-zero : ⊖ 𝟘 ≡ 𝟘
   neg-zero = sym (neg-unique 𝟘 𝟘 (add-zero 𝟘))
 
@@ -117,6 +129,19 @@ module _ (R : CommRing) where
       rest : ⊖ b ⊕ (a ⊕ b) ≡ a
       rest = add-left-comm (⊖ b) a b ∙ ap (λ x. a ⊕ x) (neg-add b) ∙ add-zero a
 
+  -- The sign (−1)^(i+j) …
+  pub sign-add : (i j : ℕ) → sign (i + j) ≡ sign i ⊗ sign j
+  unfolding sign
+  sign-add zero j = rw nat-zero-add (sym (one-mul (sign j)))
+  sign-add (suc i) j = rw suc-add (ap (λ x. ⊖ x) (sign-add i j) ∙ sym (neg-mul (sign i) (sign j)))
+
+  -- … and its square.
+  pub sign-square : (i : ℕ) → sign i ⊗ sign i ≡ 𝟙
+  unfolding sign
+  sign-square zero = mul-one 𝟙
+  sign-square (suc i) =
+      neg-mul (sign i) (⊖ sign i) ∙ ap (λ x. ⊖ x) (mul-neg (sign i) (sign i)) ∙ neg-neg (sign i ⊗ sign i) ∙ sign-square i
+
   -- A factor other than 0 is cancelled from an equation.
   pub mul-cancel : Cancels → (a b c : C) → a ≢ 𝟘 → a ⊗ b ≡ a ⊗ c → b ≡ c
   mul-cancel cancels a b c nz h = eq-of-sub b c (cancels a (b ⊕ ⊖ c) nz (mul-add a b (⊖ c) ∙ ap (λ x. a ⊗ b ⊕ x) (mul-neg a c) ∙ sub-of-eq (a ⊗ b) (a ⊗ c) h))
@@ -131,7 +156,12 @@ module _ (R : CommRing) where
 
   -- A ring with inverses has no zero divisors.
   pub cancels-of-inverts : (inv : C → C) → Inverts inv → Cancels
-  cancels-of-inverts inv inverts a b na h = sym (one-mul b) ∙ ap (λ x. x ⊗ b) (sym (inverts a na) ∙ mul-comm a (inv a)) ∙ mul-assoc (inv a) a b ∙ ap (λ x. inv a ⊗ x) h ∙ mul-zero (inv a)
+  cancels-of-inverts inv inverts a b na h =
+      sym (one-mul b)
+      ∙ ap (λ x. x ⊗ b) (sym (inverts a na) ∙ mul-comm a (inv a))
+      ∙ mul-assoc (inv a) a b
+      ∙ ap (λ x. inv a ⊗ x) h
+      ∙ mul-zero (inv a)
 
 -- A relation between the elements of two rings that 0, 1, sums, products and negatives keep. A homomorphism is one (`x` is related to
 -- `y` where it is sent to `y`), and so is "evaluates to" between polynomials and numbers. What is built by the operations of a ring,
@@ -144,6 +174,7 @@ pub record RingRelation (R S : CommRing) (Rel : R .C → S .C → Type 0) : Type
   pub rel-neg : {a : R .C} {x : S .C} → Rel a x → Rel (R .⊖_ a) (S .⊖_ x)
 
 module _ (R S : CommRing) (Rel : R .C → S .C → Type 0) (keeps : RingRelation R S Rel) where
+  -- The signs are related.
   pub sign-related : (j : ℕ) → Rel (sign R j) (sign S j)
   unfolding sign
   sign-related zero = keeps .rel-one
