@@ -1,0 +1,134 @@
+-- Document 01, "The four conditions", as tests.
+--   reduced, monomial-determinant      conditions 1 and 2
+--   first-place, low-fault, order-fault      condition 3, and the place of its first fault
+--   rank-below                         condition 4
+--   degree-sum                         Δ
+use mathlib.Core.Bool.{Bool, true, false, cond, not}
+use mathlib.Core.List.{List, []}
+use mathlib.Core.Option.{Option, none, some}
+use Prim.Native.Nat.{ℕ, zero, suc, pred, _+_, max}
+use lib.Dec.{eqb}
+use lib.IntN.{ℤ, pos, _+ℤ_, _-ℤ_}
+use lib.Signed.{leZ}
+use lib.ListN.{length, getD}
+use Rattle.algebra.specs.Residue.{K, Residue, red}
+use Rattle.algebra.specs.Integer.{Integers}
+use Rattle.algebra.specs.Sum.{sum}
+use Rattle.algebra.specs.Series.{Series}
+use Rattle.algebra.specs.Matrix.{Row, Matrix, cons, beside, vmul}
+use Rattle.algebra.specs.Det.{det}
+use Rattle.algebra.specs.Degree.{leading}
+use Rattle.algebra.specs.PolyMatrix.{entries}
+use Rattle.rules.specs.Claim.{Problem}
+use Rattle.rules.specs.Matrices.{order, shift, at, matrix-P, matrix-C, product}
+
+-- A number of K is 0.
+abbrev pub is-zero : (p : ℕ) → Residue p → Bool
+is-zero p x = eqb (x .0) 0
+
+-- Some number below n passes the test.
+unfoldable pub some-below : ℕ → (ℕ → Bool) → Bool
+some-below zero test = false
+some-below (suc n) test = elim (test zero) [ true ↦ true | false ↦ some-below n (λ i. test (suc i)) ]
+
+-- 1. REDUCED
+
+-- "An entry of length 0 counts as degree 0."
+unfoldable pub degree : List ℕ → ℕ
+degree l = pred (length l)
+
+-- The larger of two.
+abbrev pub maxZ : ℤ → ℤ → ℤ
+maxZ a b = cond (leZ a b) b a
+
+-- The largest of f 0, …, f n.
+unfoldable pub largest : ℕ → (ℕ → ℤ) → ℤ
+largest zero f = f zero
+largest (suc n) f = maxZ (f zero) (largest n (λ j. f (suc j)))
+
+-- "The degree of row i is the largest, over its entries, of degree plus that column's shift; it may be negative."
+unfoldable pub row-degree : (b : Problem) → List (List (List ℕ)) → ℕ → ℤ
+row-degree b P i = largest (pred (b .m)) (λ j. pos (degree (at P i j)) +ℤ shift b j)
+
+-- "The leading matrix holds at (i, j) the coefficient of P's entry at the power (row degree − s_j), or 0 if the entry has none there
+-- or that power is negative."
+abbrev pub leading-matrix : (b : Problem) → List (List (List ℕ)) → Matrix (K (b .p))
+leading-matrix b P = leading (K (b .p)) (row-degree b P) (shift b) (entries (K (b .p)) (matrix-P b P))
+
+-- "P is reduced if the leading matrix has a determinant other than 0"
+unfoldable pub reduced : Problem → List (List (List ℕ)) → Bool
+reduced b P = not (is-zero (b .p) (det (K (b .p)) (b .m) (leading-matrix b P)))
+
+-- 2. DETERMINANT
+
+-- "The determinant of a square is the signed sum of its first row's entries times the determinants of the squares left. It is taken
+-- over polynomials, not at points."
+abbrev pub determinant : (b : Problem) → List (List (List ℕ)) → ℕ → Residue (b .p)
+determinant b P = det (Series (K (b .p))) (b .m) (entries (K (b .p)) (matrix-P b P))
+
+-- The sum of the f i below n, …
+unfoldable pub sum-below : ℕ → (ℕ → ℕ) → ℕ
+sum-below zero f = 0
+sum-below (suc n) f = f zero + sum-below n (λ i. f (suc i))
+
+-- … and the largest, 0 where there is none.
+unfoldable pub max-below : ℕ → (ℕ → ℕ) → ℕ
+max-below zero f = 0
+max-below (suc n) f = max (f zero) (max-below n (λ i. f (suc i)))
+
+-- The determinant has no coefficient from here on: one more than the sum, over the rows, of the largest degree in the row.
+unfoldable pub determinant-bound : Problem → List (List (List ℕ)) → ℕ
+determinant-bound b P = suc (sum-below (b .m) (λ i. max-below (b .m) (λ j. degree (at P i j))))
+
+-- How many of the first n coefficients of f are not 0.
+unfoldable pub count-nonzero : (p : ℕ) → ℕ → (ℕ → Residue p) → ℕ
+count-nonzero p zero f = 0
+count-nonzero p (suc n) f = cond (is-zero p (f zero)) 0 1 + count-nonzero p n (λ k. f (suc k))
+
+-- "a nonzero constant times a power of X": exactly one coefficient is not 0.
+unfoldable pub monomial-determinant : Problem → List (List (List ℕ)) → Bool
+monomial-determinant b P = eqb (count-nonzero (b .p) (determinant-bound b P) (determinant b P)) 1
+
+-- "Δ is the sum of the row degrees less the sum of the shifts"
+unfoldable pub degree-sum : Problem → List (List (List ℕ)) → ℤ
+degree-sum b P = sum Integers (b .m) (row-degree b P) -ℤ sum Integers (b .m) (shift b)
+
+-- 3. PRODUCT
+
+-- "In column j of PF every coefficient below power d_j is 0": some coefficient is not.
+unfoldable pub low-fault : (b : Problem) → List (List (List ℕ)) → ℕ → ℕ → Bool
+low-fault b P i j = some-below (order b j) (λ k. not (is-zero (b .p) (product b P i j k)))
+
+-- "and those at power d_j are column j of C": that coefficient differs.
+unfoldable pub order-fault : (b : Problem) → List (List (List ℕ)) → List (List ℕ) → ℕ → ℕ → Bool
+order-fault b P C i j = not (eqb (product b P i j (order b j) .0) (getD (getD C i []) j 0))
+
+-- The first number below n that passes the test.
+unfoldable pub first-below : ℕ → (ℕ → Bool) → Option ℕ
+first-below zero test = none
+first-below (suc n) test = elim (test zero) [ true ↦ some zero | false ↦ elim (first-below n (λ i. test (suc i))) [ none ↦ none | some i ↦ some (suc i) ] ]
+
+-- "the place is the first row that has a fault and in it the first column"
+unfoldable pub first-place : (m n : ℕ) → (ℕ → ℕ → Bool) → Option (ℕ × ℕ)
+first-place m n fault =
+    elim (first-below m (λ i. some-below n (fault i))) [ none ↦ none | some i ↦ elim (first-below n (fault i)) [ none ↦ none | some j ↦ some (i, j) ] ]
+
+-- 4. RANK
+
+-- Some u, whose first m entries are numbers of K, passes the test.
+unfoldable pub some-constants : (p m : ℕ) → (Row (K p) → Bool) → Bool
+some-constants p zero test = test (λ i. red p 0)
+some-constants p (suc m) test = some-below p (λ x. some-constants p m (λ u. test (cons (red p x) u)))
+
+-- The constants u are not all 0 and combine the m rows of A to zero, in the first n columns.
+unfoldable pub combined-to-zero : (p m n : ℕ) → Matrix (K p) → Row (K p) → Bool
+combined-to-zero p m n A u =
+    elim (some-below m (λ i. not (is-zero p (u i)))) [ true ↦ not (some-below n (λ j. not (is-zero p (vmul (K p) m u A j)))) | false ↦ false ]
+
+-- The matrix [P(0) C]: "Its rows have m + n numbers."
+abbrev pub rank-matrix : (b : Problem) → List (List (List ℕ)) → List (List ℕ) → Matrix (K (b .p))
+rank-matrix b P C = beside (b .m) (λ i j. red (b .p) (getD (at P i j) 0 0)) (matrix-C b C)
+
+-- "some constants, not all 0, combine the rows of [P(0) C] to zero"
+unfoldable pub rank-below : Problem → List (List (List ℕ)) → List (List ℕ) → Bool
+rank-below b P C = some-constants (b .p) (b .m) (combined-to-zero (b .p) (b .m) (b .m + b .n) (rank-matrix b P C))

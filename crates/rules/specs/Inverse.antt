@@ -1,0 +1,9 @@
+-- Document 01: "The inverse in K of 0 is set to 0; of any other a it is the b with a × b = 1."
+use mathlib.Core.Option.{none, some}
+use Prim.Native.Nat.{ℕ, _*_, _%_}
+use lib.Dec.{eqb}
+use Rattle.rules.specs.Conditions.{first-below}
+
+-- The b below p with a × b = 1 modulo p, and 0 where there is none.
+unfoldable pub inverse : ℕ → ℕ → ℕ
+inverse p a = elim (first-below p (λ b. eqb (a * b % p) 1)) [ none ↦ 0 | some b ↦ b ]

@@ -1,0 +1,210 @@
+-- The four numbers of an answer are within a byte, a byte, two bytes and four bytes, so that they are one number of eight bytes.
+--   Fits v                   the four numbers are within those sizes
+--   numbers-fit, evidence-fit          so are those of every verdict, and of every answer of a service that makes evidence
+--   packed-below, packed-injective     such numbers are one number below 2 ^ 64, and can be told from it
+use mathlib.Core.Path.{_≡_, refl, sym, ap, _∙_}
+use mathlib.Core.Bool.{Bool, true, false}
+use mathlib.Core.List.{List, _++_}
+use mathlib.Core.Option.{Option, none, some}
+use Prim.Native.Nat.{ℕ, zero, suc, pred, _+_, _-_, _*_, _%_, _^_, _≤_, _<_, zero-le}
+use native.Mathlib.Nat.{le-refl, le-trans, mul-le-mul, add-mul-mod-self-left, mod-eq-of-lt, eq-of-mul-eq-mul-left}
+use native.Mathlib.Omega.{arith}
+use lib.Dec.{ltb, leb, ltb→lt}
+use lib.IntN.{ℤ, pos, negsuc, natAbs, negℤ, subℕ, _+ℤ_}
+use lib.ListN.{length, drop}
+use lib.Signed.{leZ}
+use Rattle.algebra.specs.Integer.{Integers}
+use Rattle.algebra.specs.Sum.{sum}
+use Rattle.rules.specs.Sizes.{most-rows, most-order, most-shift, most-length}
+use Rattle.rules.specs.Reader.{Result, Refusal, refused, got}
+use Rattle.rules.specs.Claim.{Problem, Claim}
+use Rattle.rules.specs.Files.{read-claim, read-basis}
+use Rattle.rules.specs.Valid.{ValidProblem, ValidBasis, Valid}
+use Rattle.rules.specs.Matrices.{shift, at}
+use Rattle.rules.specs.Conditions.{degree, largest, row-degree, degree-sum, reduced, monomial-determinant, rank-below, low-fault, order-fault}
+use Rattle.rules.specs.Conditions.{first-place}
+use Rattle.rules.specs.Verdict.{Numbers, passed, unread, not-reduced, not-monomial, below-order, at-order, low-rank, no-room, written, four, numbers}
+use Rattle.rules.specs.Verdict.{natural, by-rank, by-product, judge-claim, verdict, packed}
+use Rattle.rules.specs.Evidence.{Made, make-evidence, evidence-size, evidence-of}
+use Rattle.rules.specs.Writer.{write-CE}
+use Rattle.rules.specs.BoolLaws.{cond-cases}
+use Rattle.rules.specs.SearchLaws.{FirstPlace, first-place-some}
+use Rattle.rules.specs.Soundness.{longest-PE, longest-basis, longest-answer}
+use Rattle.rules.specs.Ranges.{claim-valid, read-basis-valid}
+use Rattle.rules.specs.RefusalPlaces.{Placed, claim-refused, basis-refused}
+
+-- The sizes of the four numbers in the packed one.
+pub record Fits (v : Numbers) : Type 0 where
+  pub code : v .code < 256
+  pub file : v .file < 256
+  pub number : v .number < 65_536
+  pub at : v .at < 4_294_967_296
+
+-- Packed, they are below 2 ^ 64.
+pub packed-below : (v : Numbers) → Fits v → packed v < 2 ^ 64
+unfolding packed
+packed-below v h = omega (arith, h)
+
+-- A first digit to a base and what stands above it.
+digits-unique : (b a a′ x x′ : ℕ) → a < b → a′ < b → a + b * x ≡ a′ + b * x′ → (a ≡ a′) × (x ≡ x′)
+digits-unique b a a′ x x′ h h′ e = (first, eq-of-mul-eq-mul-left b (omega arith) x x′ (omega (arith, first)))
+  where
+    first : a ≡ a′
+    first = sym (mod-eq-of-lt h) ∙ sym (add-mul-mod-self-left a b x) ∙ ap (λ n. n % b) e ∙ add-mul-mod-self-left a′ b x′ ∙ mod-eq-of-lt h′
+
+-- Numbers of these sizes that are packed alike are the same.
+pub packed-injective : (v w : Numbers) → Fits v → Fits w → packed v ≡ packed w → v ≡ w
+unfolding packed
+packed-injective v w hv hw e =
+    let (code, e₁) =
+    digits-unique 256 (v .code) (w .code) (v .file + 256 * (v .number + 65_536 * v .at)) (w .file + 256 * (w .number + 65_536 * w .at))
+    (hv .code) (hw .code) (omega arith) in
+    let (file, e₂) = digits-unique 256 (v .file) (w .file) (v .number + 65_536 * v .at) (w .number + 65_536 * w .at) (hv .file) (hw .file) e₁ in
+    let (number, at) = digits-unique 65_536 (v .number) (w .number) (v .at) (w .at) (hv .number) (hw .number) e₂ in
+    λ i. record { code = code i; file = file i; number = number i; at = at i }
+
+-- SIZES OF INTEGERS
+
+natAbs-subℕ : (a b : ℕ) → natAbs (subℕ a b) ≤ a + b
+natAbs-subℕ a b = cond-cases (ltb a b) (negsuc (b - suc a)) (pos (a - b)) (λ z. natAbs z ≤ a + b) (λ t. omega (arith, ltb→lt a b t)) (λ t. omega arith)
+
+natAbs-add : (x y : ℤ) → natAbs (x +ℤ y) ≤ natAbs x + natAbs y
+natAbs-add (pos a) (pos b) = le-refl (a + b)
+natAbs-add (pos a) (negsuc b) = natAbs-subℕ a (suc b)
+natAbs-add (negsuc a) (pos b) = le-trans (natAbs-subℕ b (suc a)) (omega arith)
+natAbs-add (negsuc a) (negsuc b) = omega arith
+
+natAbs-neg : (x : ℤ) → natAbs (negℤ x) ≡ natAbs x
+natAbs-neg (pos zero) = refl
+natAbs-neg (pos (suc n)) = refl
+natAbs-neg (negsuc n) = refl
+
+natAbs-sum : (n B : ℕ) (f : ℕ → ℤ) → ((i : ℕ) → natAbs (f i) ≤ B) → natAbs (sum Integers n f) ≤ n * B
+unfolding sum
+natAbs-sum zero B f h = zero-le
+natAbs-sum (suc n) B f h = omega (arith, natAbs-add (f 0) (sum Integers n (λ i. f (suc i))), h 0, natAbs-sum n B (λ i. f (suc i)) (λ i. h (suc i)))
+
+natAbs-largest : (n B : ℕ) (f : ℕ → ℤ) → ((i : ℕ) → natAbs (f i) ≤ B) → natAbs (largest n f) ≤ B
+unfolding largest
+natAbs-largest zero B f h = h 0
+natAbs-largest (suc n) B f h =
+    cond-cases (leZ (f 0) (largest n (λ j. f (suc j)))) _ _ (λ z. natAbs z ≤ B) (λ t. natAbs-largest n B (λ j. f (suc j)) (λ j. h (suc j))) (λ t. h 0)
+
+natural-natAbs : (z : ℤ) → natural z ≤ natAbs z
+natural-natAbs (pos d) = le-refl d
+natural-natAbs (negsuc d) = zero-le
+
+-- The degree sum of a valid claim is small.
+module _ (b : Problem) (P : List (List (List ℕ))) (valid : ValidProblem b) (basis : ValidBasis b P) where
+  row-degree-most : (i : ℕ) → natAbs (row-degree b P i) ≤ most-order + most-shift
+  unfolding row-degree degree most-length most-order
+  row-degree-most i = natAbs-largest (pred (b .m)) (most-order + most-shift) (λ j. pos (degree (at P i j)) +ℤ shift b j)
+      (λ j.
+      let added : natAbs (pos (degree (at P i j)) +ℤ shift b j) ≤ pred (length (at P i j)) + natAbs (shift b j) =
+      natAbs-add (pos (degree (at P i j))) (shift b j) in
+      omega (arith, valid .shift-most j, basis .P-entry-length i j))
+
+  degree-sum-most : natural (degree-sum b P) ≤ most-rows * (most-order + most-shift + most-shift)
+  unfolding degree-sum most-rows
+  degree-sum-most = omega (
+    arith,
+    natural-natAbs (degree-sum b P),
+    natAbs-add (sum Integers (b .m) (row-degree b P)) (negℤ (sum Integers (b .m) (shift b))),
+    natAbs-neg (sum Integers (b .m) (shift b)),
+    natAbs-sum (b .m) (most-order + most-shift) (row-degree b P) row-degree-most,
+    natAbs-sum (b .m) most-shift (shift b) (valid .shift-most),
+    mul-le-mul (valid .rows-most) (le-refl (most-order + most-shift)),
+    mul-le-mul (valid .rows-most) (le-refl most-shift),
+  )
+
+-- THE ANSWERS
+
+module _ (c : Claim) (valid : Valid c) where
+  by-rank-fits : Fits (numbers (by-rank c))
+  unfolding by-rank numbers most-rows most-order most-shift
+  by-rank-fits =
+      cond-cases (rank-below (c .problem) (c .answer .P) (c .answer .C)) low-rank (passed (natural (degree-sum (c .problem) (c .answer .P))))
+      (λ v. Fits (numbers v))
+      (λ t. record { code = omega arith; file = omega arith; number = omega arith; at = omega arith })
+      (λ t. record {
+        code = omega arith;
+        file = omega arith;
+        number = omega arith;
+        at = omega (arith, degree-sum-most (c .problem) (c .answer .P) (valid .valid-problem) (valid .valid-answer .basis));
+      })
+
+  by-product-fits : Fits (numbers (by-product c))
+  unfolding by-product numbers most-rows
+  by-product-fits = low (first-place (c .problem .m) (c .problem .n) (low-fault (c .problem) (c .answer .P))) refl
+    where
+      place : (fault : ℕ → ℕ → Bool) (code i j : ℕ) → code < 256 → FirstPlace (c .problem .m) (c .problem .n) fault i j → Fits (four code 2 i j)
+      place fault code i j hc f = record {
+        code = hc;
+        file = omega arith;
+        number = omega (arith, f .row, valid .valid-problem .rows-most);
+        at = omega (arith, f .column, valid .valid-problem .columns-most);
+      }
+
+      high : (o : Option (ℕ × ℕ)) → first-place (c .problem .m) (c .problem .n) (order-fault (c .problem) (c .answer .P) (c .answer .C)) ≡ o
+          → Fits (numbers (elim o [ some place ↦ at-order (place .0) (place .1) | none ↦ by-rank c ]))
+      high none e = by-rank-fits
+      high (some p) e = place _ 12 (p .0) (p .1) (omega arith) (first-place-some _ _ _ (p .0) (p .1) .0 e)
+
+      low : (o : Option (ℕ × ℕ)) → first-place (c .problem .m) (c .problem .n) (low-fault (c .problem) (c .answer .P)) ≡ o → Fits (numbers (elim o [
+        | some place ↦ below-order (place .0) (place .1)
+        | none ↦
+            elim (first-place (c .problem .m) (c .problem .n) (order-fault (c .problem) (c .answer .P) (c .answer .C)))
+            [ some place ↦ at-order (place .0) (place .1) | none ↦ by-rank c ]
+      ]))
+      low none e = high (first-place (c .problem .m) (c .problem .n) (order-fault (c .problem) (c .answer .P) (c .answer .C))) refl
+      low (some p) e = place _ 11 (p .0) (p .1) (omega arith) (first-place-some _ _ _ (p .0) (p .1) .0 e)
+
+  judged-fits : Fits (numbers (judge-claim c))
+  unfolding judge-claim numbers
+  judged-fits = first (reduced (c .problem) (c .answer .P)) (monomial-determinant (c .problem) (c .answer .P))
+    where
+      first : (a b : Bool) → Fits (numbers (elim a [ false ↦ not-reduced | true ↦ elim b [ false ↦ not-monomial | true ↦ by-product c ] ]))
+      first false b = record { code = omega arith; file = omega arith; number = omega arith; at = omega arith }
+      first true false = record { code = omega arith; file = omega arith; number = omega arith; at = omega arith }
+      first true true = by-product-fits
+
+unread-fits : (s t : List ℕ) (r : Refusal) → Placed s t r → Fits (numbers (unread r))
+unfolding numbers most-rows most-length longest-PE longest-basis longest-answer
+unread-fits s t r h =
+    record { code = omega (arith, h .code-most); file = omega (arith, h .file); number = omega (arith, h .number); at = omega (arith, h .at-most) }
+
+evidence-size-below : (b : Problem) → ValidProblem b → evidence-size b < 4_294_967_296
+unfolding most-rows
+evidence-size-below b valid = omega (arith, mul-le-mul (valid .rows-most) (valid .columns-most))
+
+-- The numbers of every verdict.
+pub numbers-fit : (s t : List ℕ) → Fits (numbers (verdict s t))
+unfolding verdict
+numbers-fit s t = by-result (read-claim s t) refl
+  where
+    by-result : (x : Result Claim) → read-claim s t ≡ x → Fits (numbers (elim x [ refused r ↦ unread r | got c q ↦ judge-claim c ]))
+    by-result (refused r) e = unread-fits s t r (claim-refused s t r e)
+    by-result (got c q) e = judged-fits c (claim-valid s t e)
+
+-- The numbers of every answer of a service that makes evidence.
+pub evidence-fit : (s t lent : List ℕ) → Fits (numbers (make-evidence s t lent .answer))
+unfolding make-evidence numbers
+evidence-fit s t lent = by-result (read-basis s t) refl
+  where
+    by-room : (b : Problem) (P : List (List (List ℕ))) → ValidProblem b → (room : Bool) → Fits (numbers ((elim room as (λ x. Made) [
+      | false ↦ record { answer = no-room (evidence-size b); buffer = lent }
+      | true ↦ record { answer = written (evidence-size b); buffer = write-CE (evidence-of b P) ++ drop (evidence-size b) lent }
+    ]) .answer))
+    by-room b P valid false = record { code = omega arith; file = omega arith; number = omega arith; at = evidence-size-below b valid }
+    by-room b P valid true = record { code = omega arith; file = omega arith; number = omega arith; at = evidence-size-below b valid }
+
+    by-result : (x : Result (Problem × List (List (List ℕ)))) → read-basis s t ≡ x → Fits (numbers ((elim x as (λ x. Made) [
+      | refused r ↦ record { answer = unread r; buffer = lent }
+      | got c q ↦
+          elim (leb (evidence-size (c .0)) (length lent)) [
+            | false ↦ record { answer = no-room (evidence-size (c .0)); buffer = lent }
+            | true ↦ record { answer = written (evidence-size (c .0)); buffer = write-CE (evidence-of (c .0) (c .1)) ++ drop (evidence-size (c .0)) lent }
+          ]
+    ]) .answer))
+    by-result (refused r) e = unread-fits s t r (basis-refused s t r e)
+    by-result (got c q) e = by-room (c .0) (c .1) (read-basis-valid s t e .0) (leb (evidence-size (c .0)) (length lent))
