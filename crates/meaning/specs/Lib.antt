@@ -1,0 +1,7 @@
+pub mod Plain
+pub mod Bridge
+pub mod Generating
+pub mod Verdicts
+pub mod Meaning
+pub mod Examples
+pub mod StandIns
