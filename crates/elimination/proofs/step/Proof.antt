@@ -1,0 +1,53 @@
+-- An exchange of rows and the clearing of a column are a step of elimination.
+use native.Mathlib.Omega.{arith}
+use borrow.Author.Needs.{needs}
+use Rattle.elimination.specs.Laws.{exchanged-below, stepped}
+use Rattle.rules.specs.Sizes.{most-rows}
+use Rattle.elimination.proofs.step.Statement.{statement}
+use Rattle.elimination.proofs.step.Tie as tie
+
+mul-inverse-mod : tie.Need-mul-inverse-mod
+unfolding most-rows
+mul-inverse-mod c = search needs
+
+mul-inverse-mod-2 : tie.Need-mul-inverse-mod-2
+unfolding most-rows
+mul-inverse-mod-2 c = search needs
+
+index-1-inverse-mod : tie.Need-index-1-inverse-mod
+unfolding most-rows
+index-1-inverse-mod c = search needs
+
+index-2-inverse-mod : tie.Need-index-2-inverse-mod
+unfolding most-rows
+index-2-inverse-mod c = search needs
+
+inverse-mod-requires : tie.Need-inverse-mod-requires
+inverse-mod-requires c κs = (c .before .pre .0, c .before .pre .1 .0 _ _)
+
+swap-rows-requires : tie.Need-swap-rows-requires
+swap-rows-requires c κs = search needs
+
+clear-below-requires : tie.Need-clear-below-requires
+clear-below-requires c κs =
+    let s = c .before .before .before in
+    (exchanged-below _ (s .args .t1) (s .args .r) (s .args .k) (c .swap-rows .result) (c .swap-rows .ensures) (s .pre .1 .0), (omega arith, (omega arith, (omega arith, omega arith))))
+
+returns : tie.Need-returns
+returns c =
+    let s = c .before .before .before .before in
+    stepped _ (s .pre .0) _ _ _ _ _ _ _ _ _ (omega arith) (omega arith) (omega arith) (s .pre .1 .1 .1 .1 .1 .1 .1) (s .pre .1 .0 _ _)
+    (c .before .before .inverse-mod .ensures) (c .before .swap-rows .ensures) (c .clear-below .ensures)
+
+pub step-spec : {M : Type 1} → statement M
+step-spec =
+    tie.close
+    (tie.spec
+    mul-inverse-mod
+    mul-inverse-mod-2
+    index-1-inverse-mod
+    index-2-inverse-mod
+    inverse-mod-requires
+    swap-rows-requires
+    clear-below-requires
+    returns)

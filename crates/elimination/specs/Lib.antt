@@ -1,0 +1,5 @@
+pub mod Steps
+pub mod Grid
+pub mod Lists
+pub mod Laws
+pub mod Unique

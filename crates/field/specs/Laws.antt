@@ -1,0 +1,90 @@
+-- The operations modulo p, as the functions of this crate compute them on numbers, carried to the residues.
+--   remainder-below          a remainder is below p
+--   red-of-add, red-of-sub, red-of-neg, red-of-mul    the residue of each result
+--   red-of-inverse, below-of-inverse    the residue of an inverse, which is below p
+--   prime-of-test            what the test of primes says
+-- and what their proofs share:
+--   product-fits             a product of two numbers below 2 ^ 32 is below 2 ^ 64
+--   mod-once                 a remainder by one subtraction
+--   inverse-is               what inverts a modulo p is its inverse
+--   test-of-other            the test of primes passes no other number
+use mathlib.Core.Path.{_≡_, refl, sym, ap, _∙_}
+use mathlib.Core.Logic.{_↔_, _≢_}
+use mathlib.Core.Bool.{Bool, true, false}
+use Prim.Native.Nat.{ℕ, _+_, _-_, _*_, _%_, _^_, _≤_, _<_}
+use native.Mathlib.Nat.{le-of-lt, lt-of-le-of-lt, mod-lt, mod-eq-of-lt, mod-eq-sub-mod, mul-le-mul}
+use native.Mathlib.Omega.{arith}
+use lib.Dec.{lit<}
+use mir.Syntax.{w64}
+use mir.Val.{Fits}
+use Rattle.algebra.specs.Ring.{CommRing, zero-mul}
+use Rattle.algebra.specs.Prime.{Prime}
+use Rattle.algebra.specs.Residue.{K, red, red-mod, red-add, red-mul, red-neg, red-eq, inverse-unique, K-inverse, K-inverts, K-nontrivial}
+use Rattle.rules.specs.Inverse.{inverse}
+use Rattle.rules.specs.Files.{is-prime}
+use Rattle.rules.specs.InverseLaws.{red-inverse, inverse-below}
+use Rattle.rules.specs.FieldTests.{is-prime-iff}
+
+-- A product of two numbers of 32 bits fits 64 bits.
+pub product-fits : (a b : ℕ) → a < 2 ^ 32 → b < 2 ^ 32 → Fits w64 (a * b)
+product-fits a b ha hb = record { fits = lt-of-le-of-lt (mul-le-mul {n₂ = 2 ^ 32 - 1} {m₂ = 2 ^ 32 - 1} (omega arith) (omega arith)) (lit< tt) }
+
+-- A number from p on, and below twice p, is reduced by one subtraction.
+pub mod-once : (p x : ℕ) → p ≤ x → x - p < p → x % p ≡ x - p
+mod-once p x from below = mod-eq-sub-mod from ∙ mod-eq-of-lt below
+
+-- What is computed as a remainder is below p.
+pub remainder-below : (p x r : ℕ) → 0 < p → r ≡ x % p → r < p
+remainder-below p x r positive e = rw e (mod-lt x positive)
+
+-- The test of primes passes no other number.
+pub test-of-other : (p : ℕ) → ¬ Prime p → is-prime p ≡ false
+test-of-other p other = go (is-prime p) (λ e. other (is-prime-iff p .0 e))
+  where
+    go : (b : Bool) → b ≢ true → b ≡ false
+    go true ne = absurd (ne refl)
+    go false ne = refl
+
+module _ (p : ℕ) where
+  open CommRing (K p) using (𝟘, 𝟙, _⊕_, _⊗_, ⊖_)
+
+  infixl 60 _⊕_
+  infixl 70 _⊗_
+  infix 80 ⊖_
+  -- A sum modulo p has the residue of the sum …
+  pub red-of-add : (a b r : ℕ) → r ≡ (a + b) % p → red p r ≡ red p a ⊕ red p b
+  red-of-add a b r e = ap (red p) e ∙ red-mod p (a + b) ∙ red-add p a b
+
+  -- … a difference that of the difference …
+  pub red-of-sub : (a b r : ℕ) → b ≤ p → r ≡ (a + (p - b)) % p → red p r ≡ red p a ⊕ ⊖ red p b
+  red-of-sub a b r h e = red-of-add a (p - b) r e ∙ ap (λ x. red p a ⊕ x) (red-neg p b h)
+
+  -- … a negative that of the negative …
+  pub red-of-neg : (a r : ℕ) → a ≤ p → r ≡ (p - a) % p → red p r ≡ ⊖ red p a
+  red-of-neg a r h e = ap (red p) e ∙ red-mod p (p - a) ∙ red-neg p a h
+
+  -- … a product that of the product …
+  pub red-of-mul : (a b r : ℕ) → r ≡ a * b % p → red p r ≡ red p a ⊗ red p b
+  red-of-mul a b r e = ap (red p) e ∙ red-mod p (a * b) ∙ red-mul p a b
+
+  -- … and an inverse that of the inverse.
+  pub red-of-inverse : Prime p → (a r : ℕ) → r ≡ inverse p a → red p r ≡ K-inverse p (red p a)
+  red-of-inverse prime a r e = ap (red p) e ∙ red-inverse p prime a
+
+  -- An inverse is below p.
+  pub below-of-inverse : Prime p → (a r : ℕ) → r ≡ inverse p a → r < p
+  below-of-inverse prime a r e = rw e (inverse-below p prime a)
+
+  -- The number below p whose residue inverts that of a is the inverse of a.
+  pub inverse-is : Prime p → (a c : ℕ) → c < p → red p a ⊗ red p c ≡ 𝟙 → c ≡ inverse p a
+  inverse-is prime a c below h = sym (mod-eq-of-lt below) ∙ red-eq p (le-of-lt (prime .two-le)) c (inverse p a) .0 same ∙ mod-eq-of-lt (inverse-below p prime a)
+    where
+      not-zero : red p a ≢ 𝟘
+      not-zero z = K-nontrivial p (prime .two-le) (sym h ∙ ap (λ x. x ⊗ red p c) z ∙ zero-mul (K p) (red p c))
+
+      same : red p c ≡ red p (inverse p a)
+      same = inverse-unique (K p) (red p a) (red p c) (K-inverse p (red p a)) h (K-inverts p prime (red p a) not-zero) ∙ sym (red-inverse p prime a)
+
+  -- The test says whether p is prime.
+  pub prime-of-test : (r : Bool) → r ≡ is-prime p → (r ≡ true) ↔ Prime p
+  prime-of-test r e = rw e (is-prime-iff p)

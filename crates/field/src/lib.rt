@@ -1,0 +1,68 @@
+// The numbers modulo p, each the number below p that stands for it.
+ghost use mathlib.Core.Path.{_≡_};
+ghost use Prim.Native.Nat.{_+_, _-_, _*_, _%_, _<_};
+ghost use Rattle.algebra.specs.Prime.{Prime};
+ghost use Rattle.rules.specs.Inverse.{inverse};
+
+pub mod prime;
+
+// a and b: numbers below p.
+// Their sum modulo p.
+pub fn add_mod(a: u32, b: u32, p: u32) -> u32
+    requires { ⌜ a < p ⌝ }
+    requires { ⌜ b < p ⌝ }
+    ensures { λ r. ⌜ r ≡ (a + b) % p ⌝ }
+{
+    let room = p - b;
+    if a < room { a + b } else { a - room }
+}
+
+// a and b: numbers below p.
+// Their difference, a less b, modulo p.
+pub fn sub_mod(a: u32, b: u32, p: u32) -> u32
+    requires { ⌜ a < p ⌝ }
+    requires { ⌜ b < p ⌝ }
+    ensures { λ r. ⌜ r ≡ (a + (p - b)) % p ⌝ }
+{
+    if a < b { p - (b - a) } else { a - b }
+}
+
+// a: a number below p.
+// Its negative modulo p.
+pub fn neg_mod(a: u32, p: u32) -> u32
+    requires { ⌜ a < p ⌝ }
+    ensures { λ r. ⌜ r ≡ (p - a) % p ⌝ }
+{
+    if a == 0 { 0 } else { p - a }
+}
+
+// a and b: any numbers. p: above 0.
+// Their product modulo p.
+pub fn mul_mod(a: u32, b: u32, p: u32) -> u32
+    requires { ⌜ 0 < p ⌝ }
+    ensures { λ r. ⌜ r ≡ a * b % p ⌝ }
+{
+    let product = a as u64 * b as u64;
+    (product % p as u64) as u32
+}
+
+// p: a prime. a: a number below p.
+// The number below p whose product with a is 1 modulo p; of 0, it is 0.
+pub fn inverse_mod(a: u32, p: u32) -> u32
+    requires { ⌜ Prime p ⌝ }
+    requires { ⌜ a < p ⌝ }
+    ensures { λ r. ⌜ r ≡ inverse p a ⌝ }
+{
+    if a == 0 {
+        return 0;
+    }
+    let mut r = a;
+    let mut c: u32 = 1;
+    while 1 < r {
+        let quotient = p / r;
+        let rest = p % r;
+        c = neg_mod(mul_mod(quotient, c, p), p);
+        r = rest;
+    }
+    c
+}

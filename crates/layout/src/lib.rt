@@ -1,0 +1,37 @@
+// The sizes of document 01 as the code has them, each named once, and where a coefficient stands in a flat array.
+ghost use mathlib.Core.Path.{_≡_};
+ghost use Prim.Native.Nat.{_<_};
+ghost use Rattle.rules.specs.Sizes.{most-rows, most-order, most-length};
+ghost use Rattle.layout.specs.Flat.{entry-place, column-place};
+
+// Rows and columns, the order of a column, the coefficients of an entry: at most so many.
+pub const ROWS: usize = 4;
+
+pub const ORDER: usize = 16;
+
+pub const LENGTH: usize = 17;
+
+// The columns of [P(0) C], the entries of a matrix, and the coefficients of P and of F.
+pub const COLUMNS: usize = 2 * ROWS;
+
+pub const SQUARE: usize = ROWS * ROWS;
+
+pub const ENTRY_COEFFICIENTS: usize = SQUARE * LENGTH;
+
+pub const COLUMN_COEFFICIENTS: usize = SQUARE * ORDER;
+
+// Where the coefficient at power k of P's entry in row i and column j stands.
+pub fn entry_place(i: usize, j: usize, k: usize) -> usize
+    requires { ⌜ (i < most-rows) × ((j < most-rows) × (k < most-length)) ⌝ }
+    ensures { λ r. ⌜ r ≡ entry-place i j k ⌝ }
+{
+    (i * ROWS + j) * LENGTH + k
+}
+
+// Where the coefficient at power k of F's entry in row i and column j stands.
+pub fn column_place(i: usize, j: usize, k: usize) -> usize
+    requires { ⌜ (i < most-rows) × ((j < most-rows) × (k < most-order)) ⌝ }
+    ensures { λ r. ⌜ r ≡ column-place i j k ⌝ }
+{
+    (j * ROWS + i) * ORDER + k
+}
