@@ -1,0 +1,12 @@
+use mathlib.Core.Path.{refl}
+use Rattle.rules.specs.Sizes.{most-rows, most-length}
+use Rattle.determinant.specs.Padded.{most-power, capacity}
+use Rattle.determinant.proofs.no_coefficients.Statement.{statement}
+use Rattle.determinant.proofs.no_coefficients.Tie as tie
+
+returns : tie.Need-returns
+unfolding capacity most-power most-rows most-length
+returns c = refl
+
+pub no-coefficients-spec : {M : Type 1} → statement M
+no-coefficients-spec = tie.close (tie.spec returns)

@@ -1,0 +1,14 @@
+use native.Mathlib.Omega.{arith}
+use mathlib.Core.Path.{refl}
+use Rattle.determinant.specs.Fold.{product-small}
+use Rattle.determinant.proofs.product.Statement.{statement}
+use Rattle.determinant.proofs.product.Tie as tie
+
+mul-result : tie.Need-mul-result
+mul-result c = omega (arith, product-small (c .pre .0) (c .pre .1))
+
+returns : tie.Need-returns
+returns c = (refl, product-small (c .pre .0) (c .pre .1))
+
+pub product-spec : {M : Type 1} → statement M
+product-spec = tie.close (tie.spec mul-result returns)

@@ -1,0 +1,39 @@
+-- Sums modulo p in 64 bits. A sum is folded to 56 bits before more is added: its digits from 2^40 on are multiplied by a number that is
+-- 2^40 modulo p. Then three products of numbers below 2^31 can be added.
+--   Carries p c              c is 2^40 modulo p
+--   fold c v                 the number that v is folded to
+--   Folded c v r             r is below 2^56 and is v modulo every p modulo which c is 2^40
+use mathlib.Core.Path.{_≡_, sym, ap, _∙_}
+use Prim.Native.Nat.{ℕ, _+_, _*_, _/_, _%_, _^_, _≤_, _<_}
+use native.Mathlib.Nat.{mul-le-mul, div-add-mod', le-pred-of-lt}
+use native.Mathlib.Omega.{arith}
+use Rattle.algebra.specs.Residue.{K, red, red-add, red-mul}
+
+-- c is 2^40 modulo p.
+abbrev pub Carries : ℕ → ℕ → Type 0
+Carries p c = red p c ≡ red p (2 ^ 40)
+
+pub record Folded (c v r : ℕ) : Type 0 where
+  pub small : r < 2 ^ 56
+  pub same : (p : ℕ) → Carries p c → red p r ≡ red p v
+
+-- A product of two numbers below 2^31 is below 2^62.
+pub product-small : {x y : ℕ} → x < 2 ^ 31 → y < 2 ^ 31 → x * y < 2 ^ 62
+product-small hx hy = omega (arith, mul-le-mul (le-pred-of-lt hx) (le-pred-of-lt hy))
+
+-- The high digits of a number of 64 bits, times a number below 2^31.
+pub high-small : {v c : ℕ} → v < 2 ^ 64 → c < 2 ^ 31 → v / 2 ^ 40 * c < 2 ^ 55
+high-small {v} {c} hv hc =
+    let high : v / 2 ^ 40 ≤ 2 ^ 24 = omega arith in
+    omega (arith, mul-le-mul high (le-pred-of-lt hc))
+
+-- Folding gives a number below 2^56 and changes nothing modulo p.
+pub folded : {c v : ℕ} → v < 2 ^ 64 → c < 2 ^ 31 → Folded c v (v / 2 ^ 40 * c + v % 2 ^ 40)
+folded {c} {v} hv hc = record {
+  small = omega (arith, high-small hv hc);
+  same = λ p h.
+      red-add p (v / 2 ^ 40 * c) (v % 2 ^ 40)
+      ∙ ap (λ x. K p ._⊕_ x (red p (v % 2 ^ 40))) (red-mul p (v / 2 ^ 40) c ∙ ap (λ x. K p ._⊗_ (red p (v / 2 ^ 40)) x) h ∙ sym (red-mul p (v / 2 ^ 40) (2 ^ 40)))
+      ∙ sym (red-add p (v / 2 ^ 40 * 2 ^ 40) (v % 2 ^ 40))
+      ∙ ap (red p) (div-add-mod' v (2 ^ 40));
+}

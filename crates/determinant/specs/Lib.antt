@@ -1,0 +1,9 @@
+pub mod Padded
+pub mod Fold
+pub mod Product
+pub mod Sign
+pub mod Tops
+pub mod Square
+pub mod Expansion
+pub mod Count
+pub mod Unique

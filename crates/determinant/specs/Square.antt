@@ -1,0 +1,93 @@
+-- The matrix that a flat array holds, its squares, and what the functions of the crate ask and say of them.
+--   Holds p m a lengths      the array a holds an m × m matrix of polynomials modulo p, whose entries have the lengths
+--   square p a row columns   the square of the rows from `row` on and the columns that a list names
+--   Asked                    what is asked for the determinant of a square
+--   Polynomial p top f l     the array l stands for f, which has no power above top, and its numbers are below p
+--   Determinant              the array of a square's determinant
+--   Without j columns left   the columns without the j-th
+use mathlib.Core.Path.{_≡_, refl, sym, ap, subst, _∙_}
+use mathlib.Core.List.{List}
+use Prim.Native.Nat.{ℕ, zero, suc, _+_, _-_, _^_, _≤_, _<_}
+use native.Mathlib.Nat.{le-of-suc-le-suc, not-suc-le-zero}
+use native.Mathlib.Numerals.{add-one}
+use native.Mathlib.Omega.{arith}
+use lib.ListN.{getD}
+use Rattle.algebra.specs.Sum.{skip}
+use Rattle.algebra.specs.Residue.{K, Residue}
+use Rattle.algebra.specs.Series.{Series}
+use Rattle.algebra.specs.Polynomial.{Below}
+use Rattle.algebra.specs.Matrix.{Matrix}
+use Rattle.algebra.specs.Det.{det}
+use Rattle.rules.specs.Sizes.{largest-prime, most-rows, most-length}
+use Rattle.layout.specs.Flat.{cell, cells}
+use Rattle.determinant.specs.Padded.{Each, Stands}
+use Rattle.determinant.specs.Fold.{Carries}
+use Rattle.determinant.specs.Tops.{Tops, length-at}
+
+-- The flat array a holds an m × m matrix of polynomials modulo p, and lengths says how many coefficients each entry has.
+pub record Holds (p m : ℕ) (a lengths : List ℕ) : Type 0 where
+  pub two-le : 2 ≤ p
+  pub allowed : p ≤ largest-prime
+  pub some-row : 1 ≤ m
+  pub few-rows : m ≤ most-rows
+  pub below : Each p a
+  pub short : (i : ℕ) → getD lengths i 0 ≤ most-length
+  pub zeros : (i j k : ℕ) → i < m → j < m → length-at lengths i j ≤ k → cell a i j k ≡ 0
+
+-- The square with the rows from `row` on and the columns that a list names.
+abbrev pub square : (p : ℕ) → List ℕ → ℕ → List ℕ → Matrix (Series (K p))
+square p a row columns i j = cells p a (row + i) (getD columns j 0)
+
+-- What is asked for the determinant of the square with `size` rows from `row` on, the last rows of the matrix, and as many columns.
+pub record Asked (p c size row : ℕ) (a lengths tops columns : List ℕ) : Type 0 where
+  pub holds : Holds p (row + size) a lengths
+  pub bounded : Tops (row + size) lengths tops
+  pub carries : Carries p c
+  pub small : c < p
+  pub some : 1 ≤ size
+  pub within : (j : ℕ) → j < size → getD columns j 0 < row + size
+
+-- The array l stands for the polynomial f, which has no power above top, and its numbers are below p.
+pub record Polynomial (p top : ℕ) (f : ℕ → Residue p) (l : List ℕ) : Type 0 where
+  pub stands : Stands p l f
+  pub below : Below (K p) (suc top) f
+  pub small : Each p l
+
+abbrev pub Determinant : (p size row : ℕ) (a tops columns l : List ℕ) → Type 0
+Determinant p size row a tops columns l = Polynomial p (getD tops row 0) (det (Series (K p)) size (square p a row columns)) l
+
+-- The columns without the j-th.
+abbrev pub Without : (j : ℕ) (columns left : List ℕ) → Type 0
+Without j columns left = (k : ℕ) → k + 1 < most-rows → getD left k 0 ≡ getD columns (skip j k) 0
+
+-- The numbers below j stay where they are, and the others move up by one.
+pub skip-low : (j k : ℕ) → k < j → skip j k ≡ k
+unfolding skip
+skip-low zero k h = absurd (not-suc-le-zero h)
+skip-low (suc j) zero h = refl
+skip-low (suc j) (suc k) h = ap suc (skip-low j k (le-of-suc-le-suc h))
+
+pub skip-high : (j k : ℕ) → j ≤ k → skip j k ≡ k + 1
+unfolding skip
+skip-high zero k h = sym (add-one k)
+skip-high (suc j) zero h = absurd (omega arith)
+skip-high (suc j) (suc k) h = ap suc (skip-high j k (le-of-suc-le-suc h)) ∙ omega arith
+
+module _ {p c size row : ℕ} {a lengths tops columns : List ℕ} (asked : Asked p c size row a lengths tops columns) where
+  -- The first row and the columns of a square are within the matrix.
+  pub asked-row : row < most-rows
+  asked-row = omega (arith, asked .holds .few-rows, asked .some)
+
+  pub asked-column : {j : ℕ} → j < size → getD columns j 0 < most-rows
+  asked-column {j} h = omega (arith, asked .holds .few-rows, asked .within j h)
+
+  -- Numbers below p, and the number that carries, are below 2^31.
+  pub asked-below : {x : ℕ} → x < p → x < 2 ^ 31
+  unfolding largest-prime
+  asked-below h = omega (arith, asked .holds .allowed)
+
+  -- A size that is not 0 is a successor.
+  pub asked-suc : Asked p c (suc (size - 1)) row a lengths tops columns
+  asked-suc =
+      let e : size ≡ suc (size - 1) = omega (arith, asked .some) in
+      subst (λ n. Asked p c n row a lengths tops columns) e asked

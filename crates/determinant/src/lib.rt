@@ -1,0 +1,348 @@
+// The determinant of a square of polynomials modulo p, as document 01 says it: "the signed sum of its first row's entries times the
+// determinants of the squares left. It is taken over polynomials, not at points." No square is copied: the entries stay in the one flat
+// array that the caller lends, and a square is the number of its first row and the list of its columns.
+//
+// A polynomial of the work stands in an array of CAPACITY numbers: two zeros, its coefficients from power 0 on, then zeros, at least
+// two of them. With these zeros the product of two polynomials needs no case for its ends.
+use layout::ENTRY_COEFFICIENTS;
+use layout::LENGTH;
+use layout::ROWS;
+use layout::SQUARE;
+use layout::entry_place;
+ghost use mathlib.Core.Path.{_≡_};
+ghost use Prim.Native.Nat.{pred, max, _+_, _*_, _^_, _≤_, _<_};
+ghost use lib.Dec.{eqb};
+ghost use lib.ListN.{length, getD, replicate};
+ghost use Rattle.algebra.specs.Residue.{K};
+ghost use Rattle.algebra.specs.Series.{Series};
+ghost use Rattle.algebra.specs.Sum.{skip};
+ghost use Rattle.algebra.specs.Det.{det};
+ghost use Rattle.rules.specs.Sizes.{most-rows, most-length};
+ghost use Rattle.layout.specs.Flat.{cells};
+ghost use Rattle.determinant.specs.Padded.{most-power, capacity, Each, Filled, Remainder};
+ghost use Rattle.determinant.specs.Fold.{Folded};
+ghost use Rattle.determinant.specs.Product.{Added, AddedTriple, AddedProduct};
+ghost use Rattle.determinant.specs.Sign.{Signed, SignedEntry};
+ghost use Rattle.determinant.specs.Tops.{Tops, RowTop, length-at};
+ghost use Rattle.determinant.specs.Square.{Holds, Asked, Determinant, Without};
+ghost use Rattle.determinant.specs.Expansion.{InOrder};
+ghost use Rattle.determinant.specs.Count.{Tells, counted, nonzeros};
+
+// The highest power in a determinant: each row contributes one entry.
+const MOST_POWER: usize = ROWS * (LENGTH - 1);
+
+// The numbers of an array that holds a polynomial.
+const CAPACITY: usize = 2 + (1 + MOST_POWER) + 2;
+
+// Where a sum is folded: 2^40.
+const FOLD: u64 = 1 << 40;
+
+// The polynomial 0.
+fn no_coefficients() -> [u32; CAPACITY]
+    ensures { λ r. ⌜ r ≡ replicate capacity 0 ⌝ }
+{
+    [0; CAPACITY]
+}
+
+// Sums to which nothing has been added, one for each power.
+fn no_sums() -> [u64; CAPACITY]
+    ensures { λ r. ⌜ r ≡ replicate capacity 0 ⌝ }
+{
+    [0; CAPACITY]
+}
+
+// v: any sum. c: 2^40 modulo p.
+// A number below 2^56 that is v modulo p. It takes one product of 32-bit numbers and no division, so that a sum need not be divided
+// by p each time that something is added to it.
+fn fold(v: u64, c: u32) -> u64
+    requires { ⌜ c < 2 ^ 31 ⌝ }
+    ensures { λ r. ⌜ Folded c v r ⌝ }
+{
+    v / FOLD * c as u64 + v % FOLD
+}
+
+// x and y: numbers below 2^31, as every number modulo an allowed prime is.
+// Their whole product: as both come from 32 bits, the processor makes two or more such products at once.
+fn product(x: u32, y: u32) -> u64
+    requires { ⌜ (x < 2 ^ 31) × (y < 2 ^ 31) ⌝ }
+    ensures { λ r. ⌜ (r ≡ x * y) × (r < 2 ^ 62) ⌝ }
+{
+    x as u64 * y as u64
+}
+
+// v: a sum. x, y and z: three coefficients in a row of one polynomial. minor: another polynomial. k: a power. c: 2^40 modulo p.
+// The sum with the coefficient at k of (x + y·X + z·X²) · minor added. A folded sum and three products always fit 64 bits.
+fn add_three(v: u64, x: u32, y: u32, z: u32, minor: &[u32; CAPACITY], k: usize, c: u32) -> u64
+    requires { ⌜ (x < 2 ^ 31) × ((y < 2 ^ 31) × (z < 2 ^ 31)) ⌝ }
+    requires { ⌜ (k + 2 < capacity) × (c < 2 ^ 31) ⌝ }
+    requires { ⌜ Each (2 ^ 31) (now minor) ⌝ }
+    ensures { λ r. ⌜ Added c v x y z k (now (minor .entry)) r ⌝ }
+{
+    fold(v, c) + product(x, minor[k + 2]) + product(y, minor[k + 1]) + product(z, minor[k])
+}
+
+// sums: the sums, one for each power. entry and minor: two polynomials. at: a power. top: the highest power of minor. c: 2^40 modulo p.
+// Adds to the sums the terms of entry at the powers at, at + 1 and at + 2, times minor. Each turn does the same to its own sum, so
+// that turns are made side by side.
+fn add_triple(
+    sums: &mut [u64; CAPACITY],
+    entry: &[u32; CAPACITY],
+    at: usize,
+    minor: &[u32; CAPACITY],
+    top: usize,
+    c: u32,
+)
+    requires { ⌜ (at + top ≤ most-power) × ((c < 2 ^ 31) × (length (now sums) ≡ capacity)) ⌝ }
+    requires { ⌜ Each (2 ^ 31) (now entry) × Each (2 ^ 31) (now minor) ⌝ }
+    ensures { λ _. ⌜ AddedTriple c at top (now (entry .entry)) (now (minor .entry)) (now (sums .entry)) (now (sums .exit)) ⌝ }
+{
+    let x = entry[at + 2];
+    let y = entry[at + 3];
+    let z = entry[at + 4];
+    for k in 0..top + 3 {
+        let s = at + k;
+        sums[s] = add_three(sums[s], x, y, z, minor, k, c);
+    }
+}
+
+// sums: the sums, one for each power. entry: a polynomial of count coefficients. minor: a polynomial with no power above top. c: 2^40
+// modulo p.
+// Adds to the sums the product of the two polynomials, three coefficients of entry at a time.
+fn add_product(
+    sums: &mut [u64; CAPACITY],
+    entry: &[u32; CAPACITY],
+    count: usize,
+    minor: &[u32; CAPACITY],
+    top: usize,
+    c: u32,
+)
+    requires { ⌜ (count + top ≤ most-power + 1) × ((c < 2 ^ 31) × (length (now sums) ≡ capacity)) ⌝ }
+    requires { ⌜ Each (2 ^ 31) (now entry) × Each (2 ^ 31) (now minor) ⌝ }
+    ensures { λ _. ⌜ AddedProduct c count top (now (entry .entry)) (now (minor .entry)) (now (sums .entry)) (now (sums .exit)) ⌝ }
+{
+    let mut at = 0;
+    while at < count {
+        add_triple(sums, entry, at, minor, top, c);
+        at += 3;
+    }
+}
+
+// sums: the sums, one for each power. top: the highest power that has one. p: above 0.
+// The polynomial whose coefficients the sums are modulo p: one division for each coefficient.
+fn residues(sums: &[u64; CAPACITY], top: usize, p: u32) -> [u32; CAPACITY]
+    requires { ⌜ (0 < p) × (top ≤ most-power) ⌝ }
+    ensures { λ r. ⌜ Filled (top + 1) (Remainder p (now (sums .entry))) r ⌝ }
+{
+    let mut l = no_coefficients();
+    for k in 0..top + 1 {
+        l[k + 2] = (sums[k] % p as u64) as u32;
+    }
+    l
+}
+
+// x: a number below p. j: a column.
+// x with the sign of the column, modulo p: x itself in the even columns, its negative in the odd ones.
+fn with_sign(x: u32, j: usize, p: u32) -> u32
+    requires { ⌜ x < p ⌝ }
+    ensures { λ r. ⌜ Signed p j x r ⌝ }
+{
+    if j % 2 == 0 {
+        return x;
+    }
+    if x == 0 { 0 } else { p - x }
+}
+
+// a: the coefficients of the matrix, below p. row and column: an entry, of count coefficients. j: the number of that column in a square.
+// The entry with the sign that it has in the square's expansion, as a polynomial of the work.
+fn signed_entry(
+    a: &[u32; ENTRY_COEFFICIENTS],
+    row: usize,
+    column: usize,
+    count: usize,
+    j: usize,
+    p: u32,
+) -> [u32; CAPACITY]
+    requires { ⌜ (row < most-rows) × ((column < most-rows) × (count ≤ most-length)) ⌝ }
+    requires { ⌜ Each p (now a) ⌝ }
+    ensures { λ r. ⌜ SignedEntry p row column count j (now (a .entry)) r ⌝ }
+{
+    let mut l = no_coefficients();
+    for k in 0..count {
+        l[k + 2] = with_sign(a[entry_place(row, column, k)], j, p);
+    }
+    l
+}
+
+// lengths: how many coefficients each entry has. i and j: a row and a column.
+// The length of that entry.
+fn entry_length(lengths: &[usize; SQUARE], i: usize, j: usize) -> usize
+    requires { ⌜ (i < most-rows) × (j < most-rows) ⌝ }
+    ensures { λ r. ⌜ r ≡ length-at (now (lengths .entry)) i j ⌝ }
+{
+    lengths[i * ROWS + j]
+}
+
+// The k-th of the numbers other than j.
+fn other(j: usize, k: usize) -> usize
+    requires { ⌜ k < most-rows ⌝ }
+    ensures { λ r. ⌜ r ≡ skip j k ⌝ }
+{
+    if k < j { k } else { k + 1 }
+}
+
+// columns: the columns of a square. j: the number of one of them in that list.
+// The others, in order.
+fn without(columns: &[usize; ROWS], j: usize) -> [usize; ROWS]
+    ensures { λ r. ⌜ Without j (now (columns .entry)) r ⌝ }
+{
+    let mut left = [0; ROWS];
+    for k in 0..ROWS - 1 {
+        left[k] = columns[other(j, k)];
+    }
+    left
+}
+
+// a: the coefficients of a matrix, below p. lengths: how many each entry has. tops: for each row, a bound on the powers in a determinant
+// of the rows from there on. c: 2^40 modulo p. size and row: the square's last `size` rows of the matrix start at `row`. columns: the
+// first `size` of these are its columns.
+// The determinant of the square, each coefficient below p: of one entry, that entry; of a larger square, by its first row.
+fn determinant(
+    a: &[u32; ENTRY_COEFFICIENTS],
+    lengths: &[usize; SQUARE],
+    tops: &[usize; ROWS],
+    p: u32,
+    c: u32,
+    size: usize,
+    row: usize,
+    columns: &[usize; ROWS],
+) -> [u32; CAPACITY]
+    requires { ⌜ Asked p c size row (now a) (now lengths) (now tops) (now columns) ⌝ }
+    ensures { λ r. ⌜ Determinant p size row (now (a .entry)) (now (tops .entry)) (now (columns .entry)) r ⌝ }
+{
+    if size == 1 {
+        let column = columns[0];
+        signed_entry(a, row, column, entry_length(lengths, row, column), 0, p)
+    } else {
+        expand_row(a, lengths, tops, p, c, size, row, columns)
+    }
+}
+
+// The parameters are those of `determinant`, and the size is at least 2.
+// The signed sum of the first row's entries times the determinants of the squares left. A zero entry costs nothing, each product is as
+// long as its factors, and the sums of all products are divided by p once.
+fn expand_row(
+    a: &[u32; ENTRY_COEFFICIENTS],
+    lengths: &[usize; SQUARE],
+    tops: &[usize; ROWS],
+    p: u32,
+    c: u32,
+    size: usize,
+    row: usize,
+    columns: &[usize; ROWS],
+) -> [u32; CAPACITY]
+    requires { ⌜ Asked p c size row (now a) (now lengths) (now tops) (now columns) ⌝ }
+    requires { ⌜ 2 ≤ size ⌝ }
+    ensures { λ r. ⌜ Determinant p size row (now (a .entry)) (now (tops .entry)) (now (columns .entry)) r ⌝ }
+{
+    let mut sums = no_sums();
+    for j in 0..size {
+        let column = columns[j];
+        let length = entry_length(lengths, row, column);
+        if 0 < length {
+            let left = without(columns, j);
+            let minor = determinant(a, lengths, tops, p, c, size - 1, row + 1, &left);
+            let entry = signed_entry(a, row, column, length, j, p);
+            add_product(&mut sums, &entry, length, &minor, tops[row + 1], c);
+        }
+    }
+    residues(&sums, tops[row], p)
+}
+
+// The larger of a degree and the degree of an entry of the given length; an entry of length 0 counts as degree 0.
+fn higher(top: usize, length: usize) -> usize
+    ensures { λ r. ⌜ r ≡ max top (pred length) ⌝ }
+{
+    if top < length { length - 1 } else { top }
+}
+
+// lengths: how many coefficients each entry has. i: a row of the m × m matrix.
+// The highest degree in the row.
+fn row_top(lengths: &[usize; SQUARE], i: usize, m: usize) -> usize
+    requires { ⌜ (i < most-rows) × (m ≤ most-rows) ⌝ }
+    requires { ⌜ Each (most-length + 1) (now lengths) ⌝ }
+    ensures { λ r. ⌜ RowTop m i (now (lengths .entry)) r ⌝ }
+{
+    let mut top = 0;
+    for j in 0..m {
+        top = higher(top, entry_length(lengths, i, j));
+    }
+    top
+}
+
+// lengths: how many coefficients each entry of the m × m matrix has.
+// For each row the sum of the highest degrees of the rows from there on: no determinant of these rows has a higher power.
+fn row_tops(lengths: &[usize; SQUARE], m: usize) -> [usize; ROWS]
+    requires { ⌜ m ≤ most-rows ⌝ }
+    requires { ⌜ Each (most-length + 1) (now lengths) ⌝ }
+    ensures { λ r. ⌜ Tops m (now (lengths .entry)) r ⌝ }
+{
+    let mut tops = [0; ROWS];
+    let mut i = m;
+    let mut sum = 0;
+    while 0 < i {
+        i -= 1;
+        sum += row_top(lengths, i, m);
+        tops[i] = sum;
+    }
+    tops
+}
+
+// Every column, in order.
+fn all_columns() -> [usize; ROWS]
+    ensures { λ r. ⌜ InOrder r ⌝ }
+{
+    let mut columns = [0; ROWS];
+    for j in 0..ROWS {
+        columns[j] = j;
+    }
+    columns
+}
+
+// 0 for 0 and 1 for any other number.
+fn one_if_nonzero(x: u32) -> usize
+    ensures { λ r. ⌜ r ≡ counted x ⌝ }
+{
+    if x == 0 { 0 } else { 1 }
+}
+
+// l: a polynomial with no power above top.
+// Whether exactly one of its coefficients is not 0.
+fn is_monomial(l: &[u32; CAPACITY], top: usize) -> bool
+    requires { ⌜ top ≤ most-power ⌝ }
+    ensures { λ r. ⌜ r ≡ eqb (nonzeros (λ k. getD (now (l .entry)) (k + 2) 0) (top + 1)) 1 ⌝ }
+{
+    let mut n: usize = 0;
+    for k in 0..top + 1 {
+        n += one_if_nonzero(l[k + 2]);
+    }
+    n == 1
+}
+
+// a: the coefficients of an m × m matrix of polynomials modulo p, each below p, an entry's coefficients followed by zeros. lengths: how
+// many coefficients each entry has, at i * ROWS + j. p: from 2 to the largest prime that is allowed.
+// Whether the determinant of the matrix is a nonzero constant times a power of X.
+pub fn determinant_is_monomial(
+    a: &[u32; ENTRY_COEFFICIENTS],
+    lengths: &[usize; SQUARE],
+    p: u32,
+    m: usize,
+) -> bool
+    requires { ⌜ Holds p m (now a) (now lengths) ⌝ }
+    ensures { λ r. ⌜ Tells p (det (Series (K p)) m (cells p (now (a .entry)))) r ⌝ }
+{
+    let tops = row_tops(lengths, m);
+    let columns = all_columns();
+    let c = (FOLD % p as u64) as u32;
+    let l = determinant(a, lengths, &tops, p, c, m, 0, &columns);
+    is_monomial(&l, tops[0])
+}

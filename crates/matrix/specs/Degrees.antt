@@ -1,0 +1,186 @@
+-- Condition 1 over the flat arrays: the degree of an entry from its length, of a row, their sum, and the leading matrix.
+--   length-degree n          the degree of an entry with n coefficients
+--   entry-term, flat-row-degree, flat-degree-sum
+--   at-power z f             the coefficient of f at the integer z: 0 where z is negative
+--   leading-number           the numbers of the leading matrix
+--   Sized lengths shifts     the sizes of document 01
+use mathlib.Core.Path.{_≡_, refl, sym, ap, ap₂, subst, fun-ext, _∙_}
+use mathlib.Core.Bool.{true, false}
+use mathlib.Core.List.{List, []}
+use Prim.Native.Nat.{ℕ, suc, pred, _+_, _-_, _*_, _≤_, _<_}
+use native.Mathlib.Nat.{le-trans, pred-le, sub-self, sub-zero, add-zero, zero-add, add-suc, suc-add}
+use native.Mathlib.Omega.{arith}
+use borrow.Author.Tests.{ltb-true}
+use lib.Dec.{T}
+use lib.Signed.{ltZ}
+use lib.IntN.{ℤ, pos, negsuc, negℤ, natAbs, _+ℤ_, _-ℤ_}
+use lib.ListN.{getD}
+use Rattle.algebra.specs.Residue.{K, red}
+use Rattle.algebra.specs.Sum.{sum, sum-add, neg-sum}
+use Rattle.algebra.specs.Integer.{Integers}
+use Rattle.algebra.specs.Degree.{coefficient, leading}
+use Rattle.rules.specs.Conditions.{maxZ, largest}
+use Rattle.rules.specs.Sizes.{most-rows, most-length, most-shift}
+use Rattle.layout.specs.Flat.{square-place, cell, cells}
+use Rattle.matrix.specs.Cells.{cell-below}
+use Rattle.matrix.specs.Fill.{array-of, array-of-at, array-of-below}
+use Rattle.matrix.specs.Signed.{natAbs-add, natAbs-minus, natAbs-largest, natAbs-sum}
+
+-- "An entry of length 0 counts as degree 0."
+unfoldable pub length-degree : ℕ → ℤ
+length-degree n = pos (pred n)
+
+-- The lengths of P's entries and the shifts are within document 01's sizes.
+pub record Sized (lengths : List ℕ) (shifts : List ℤ) : Type 0 where
+  pub length-most : (k : ℕ) → getD lengths k 0 ≤ most-length
+  pub shift-most : (j : ℕ) → natAbs (getD shifts j (pos 0)) ≤ most-shift
+
+-- Degree plus the column's shift.
+unfoldable pub entry-term : List ℕ → List ℤ → ℕ → ℕ → ℤ
+entry-term lengths shifts i j = length-degree (getD lengths (square-place i j) 0) +ℤ getD shifts j (pos 0)
+
+-- "The degree of row i is the largest, over its entries, of degree plus that column's shift"
+unfoldable pub flat-row-degree : List ℕ → List ℤ → ℕ → ℕ → ℤ
+flat-row-degree lengths shifts m i = largest (pred m) (entry-term lengths shifts i)
+
+-- The largest from j on, up to n.
+abbrev pub largest-from : (ℕ → ℤ) → ℕ → ℕ → ℤ
+largest-from f n j = largest (n - j) (λ t. f (j + t))
+
+-- The last one is the largest of itself …
+pub largest-from-last : (f : ℕ → ℤ) (n : ℕ) → largest-from f n n ≡ f n
+unfolding largest
+largest-from-last f n = ap (λ k. largest k (λ t. f (n + t))) (sub-self n) ∙ ap f (add-zero n)
+
+sub-suc : (n j : ℕ) → suc j ≤ n → n - j ≡ suc (n - suc j)
+sub-suc n j h = omega arith
+
+largest-from-suc : (f : ℕ → ℤ) (n j : ℕ) → suc j ≤ n → largest-from f n j ≡ maxZ (f j) (largest-from f n (suc j))
+unfolding largest
+largest-from-suc f n j b =
+    ap (λ k. largest k (λ t. f (j + t))) (sub-suc n j b)
+    ∙ ap₂ (λ x g. maxZ x (largest (n - suc j) g)) (ap f (add-zero j)) (fun-ext (λ t. ap f (add-suc j t ∙ sym (suc-add j t))))
+
+-- … a step to the front takes the larger of that one and the largest so far …
+pub largest-from-step : (f : ℕ → ℤ) (n j : ℕ) → 0 < j → j ≤ n → maxZ (f (j - 1)) (largest-from f n j) ≡ largest-from f n (j - 1)
+largest-from-step f n j h b =
+    let e : j ≡ suc (j - 1) = omega arith in
+    ap (λ x. maxZ (f (j - 1)) (largest-from f n x)) e ∙ sym (largest-from-suc f n (j - 1) (omega arith))
+
+-- … and from 0 on it is the largest of all.
+pub largest-from-zero : (f : ℕ → ℤ) (n : ℕ) → largest-from f n 0 ≡ largest n f
+largest-from-zero f n = ap₂ largest (sub-zero n) (fun-ext (λ t. ap f (zero-add t)))
+
+module _ (lengths : List ℕ) (shifts : List ℤ) (sized : Sized lengths shifts) where
+  -- The sizes of the terms and of the degrees of rows.
+  pub term-size : (i j : ℕ) → natAbs (entry-term lengths shifts i j) ≤ most-length + most-shift
+  unfolding entry-term length-degree
+  term-size i j =
+      le-trans (natAbs-add (length-degree (getD lengths (square-place i j) 0)) (getD shifts j (pos 0)))
+      (omega (arith, sized .length-most (square-place i j), sized .shift-most j, pred-le (getD lengths (square-place i j) 0)))
+
+  pub row-degree-size : (m i : ℕ) → natAbs (flat-row-degree lengths shifts m i) ≤ most-length + most-shift
+  unfolding flat-row-degree
+  row-degree-size m i = natAbs-largest (most-length + most-shift) (pred m) (entry-term lengths shifts i) (λ j b. term-size i j)
+
+-- "the sum of the row degrees less the sum of the shifts"
+unfoldable pub flat-degree-sum : List ℕ → List ℤ → ℕ → ℤ
+flat-degree-sum lengths shifts m =
+    sum Integers m (flat-row-degree lengths shifts m) -ℤ sum Integers m (λ j. getD shifts j (pos 0))
+
+-- The row degrees less the shifts, one by one.
+abbrev pub excess : List ℕ → List ℤ → ℕ → ℕ → ℤ
+excess lengths shifts m i = flat-row-degree lengths shifts m i -ℤ getD shifts i (pos 0)
+
+-- The sum from i on, below n.
+abbrev pub sum-from : (ℕ → ℤ) → ℕ → ℕ → ℤ
+sum-from f n i = sum Integers (n - i) (λ t. f (i + t))
+
+-- It is 0 at the end …
+pub sum-from-end : (f : ℕ → ℤ) (n : ℕ) → sum-from f n n ≡ pos 0
+unfolding sum
+sum-from-end f n = ap (λ k. sum Integers k (λ t. f (n + t))) (sub-self n)
+
+sum-from-suc : (f : ℕ → ℤ) (n i : ℕ) → suc i ≤ n → sum-from f n i ≡ f i +ℤ sum-from f n (suc i)
+unfolding sum
+sum-from-suc f n i b =
+    ap (λ k. sum Integers k (λ t. f (i + t))) (sub-suc n i b)
+    ∙ ap₂ (λ x g. x +ℤ sum Integers (n - suc i) g) (ap f (add-zero i)) (fun-ext (λ t. ap f (add-suc i t ∙ sym (suc-add i t))))
+
+-- … a step to the front adds the number there …
+pub sum-from-step : (f : ℕ → ℤ) (n i : ℕ) → 0 < i → i ≤ n → f (i - 1) +ℤ sum-from f n i ≡ sum-from f n (i - 1)
+sum-from-step f n i h b =
+    let e : i ≡ suc (i - 1) = omega arith in
+    ap (λ x. f (i - 1) +ℤ sum-from f n x) e ∙ sym (sum-from-suc f n (i - 1) (omega arith))
+
+-- … and from 0 on it is the sum of all.
+pub sum-from-zero : (f : ℕ → ℤ) (n : ℕ) → sum-from f n 0 ≡ sum Integers n f
+sum-from-zero f n = ap₂ (sum Integers) (sub-zero n) (fun-ext (λ t. ap f (zero-add t)))
+
+-- The sum of the differences is the difference of the sums.
+pub degree-sum-excess : (lengths : List ℕ) (shifts : List ℤ) (m : ℕ) → sum Integers m (excess lengths shifts m) ≡ flat-degree-sum lengths shifts m
+unfolding flat-degree-sum
+degree-sum-excess lengths shifts m =
+    sum-add Integers m (flat-row-degree lengths shifts m) (λ i. negℤ (getD shifts i (pos 0)))
+    ∙ ap (λ x. sum Integers m (flat-row-degree lengths shifts m) +ℤ x) (sym (neg-sum Integers m (λ i. getD shifts i (pos 0))))
+
+module _ (lengths : List ℕ) (shifts : List ℤ) (sized : Sized lengths shifts) where
+  -- The sizes of the differences and of their sums.
+  pub excess-size : (m i : ℕ) → natAbs (excess lengths shifts m i) ≤ most-length + most-shift + most-shift
+  excess-size m i =
+      le-trans (natAbs-minus (flat-row-degree lengths shifts m i) (getD shifts i (pos 0)))
+      (omega (arith, row-degree-size lengths shifts sized m i, sized .shift-most i))
+
+  pub sum-from-size : (m i : ℕ) → natAbs (sum-from (excess lengths shifts m) m i) ≤ (m - i) * (most-length + most-shift + most-shift)
+  sum-from-size m i =
+      natAbs-sum (most-length + most-shift + most-shift) (m - i) (λ t. excess lengths shifts m (i + t)) (λ t b. excess-size m (i + t))
+
+-- The number at the integer z: 0 where z is negative.
+unfoldable pub at-power : ℤ → (ℕ → ℕ) → ℕ
+at-power (pos k) f = f k
+at-power (negsuc k) f = 0
+
+-- At a negative number it is 0, at another what stands there.
+pub at-power-negative : (z : ℤ) (f : ℕ → ℕ) → ltZ z (pos 0) ≡ true → at-power z f ≡ 0
+unfolding at-power
+at-power-negative (pos k) f t = absurd (let h : k < 0 = ltb-true k 0 t in omega arith)
+at-power-negative (negsuc k) f t = refl
+
+pub at-power-natAbs : (z : ℤ) (f : ℕ → ℕ) → ltZ z (pos 0) ≡ false → at-power z f ≡ f (natAbs z)
+unfolding at-power
+at-power-natAbs (pos k) f t = refl
+at-power-natAbs (negsuc k) f t = absurd (subst T t tt)
+
+-- It is below p where all are.
+pub at-power-below : (p : ℕ) (z : ℤ) (f : ℕ → ℕ) → 0 < p → ((k : ℕ) → f k < p) → at-power z f < p
+unfolding at-power
+at-power-below p (pos k) f zero-below below = below k
+at-power-below p (negsuc k) f zero-below below = zero-below
+
+-- Modulo p it is the coefficient of the polynomial.
+pub red-at-power : (p : ℕ) (z : ℤ) (f : ℕ → ℕ) → red p (at-power z f) ≡ coefficient (K p) z (λ k. red p (f k))
+unfolding at-power coefficient
+red-at-power p (pos k) f = refl
+red-at-power p (negsuc k) f = refl
+
+-- "The leading matrix holds at (i, j) the coefficient of P's entry at the power (row degree − s_j), or 0 if the entry has none there
+-- or that power is negative."
+unfoldable pub leading-number : List ℕ → List ℕ → List ℤ → ℕ → ℕ → ℕ → ℕ
+leading-number a lengths shifts m i j = at-power (flat-row-degree lengths shifts m i -ℤ getD shifts j (pos 0)) (cell a i j)
+
+-- Modulo p the array is the leading matrix of the polynomials, for the row degrees and the shifts.
+pub leading-array : (p : ℕ) (a lengths : List ℕ) (shifts : List ℤ) (m i j : ℕ) → i < m → j < m → m ≤ most-rows
+    → red p (getD (getD (array-of m m (leading-number a lengths shifts m)) i []) j 0)
+    ≡ leading (K p) (flat-row-degree lengths shifts m) (λ j. getD shifts j (pos 0)) (cells p a) i j
+unfolding leading-number
+leading-array p a lengths shifts m i j hi hj hm =
+    ap (red p) (array-of-at m m (leading-number a lengths shifts m) i j hi hj hm (omega arith))
+    ∙ red-at-power p (flat-row-degree lengths shifts m i -ℤ getD shifts j (pos 0)) (cell a i j)
+
+-- Its numbers are below p where the coefficients are.
+pub leading-array-below : (p : ℕ) (a lengths : List ℕ) (shifts : List ℤ) (m : ℕ) → 0 < p → ((k : ℕ) → getD a k 0 < p)
+    → (i j : ℕ) → getD (getD (array-of m m (leading-number a lengths shifts m)) i []) j 0 < p
+unfolding leading-number
+leading-array-below p a lengths shifts m pos-p below =
+    array-of-below p m m (leading-number a lengths shifts m) pos-p
+    (λ i j. at-power-below p (flat-row-degree lengths shifts m i -ℤ getD shifts j (pos 0)) (cell a i j) pos-p (cell-below p a i j pos-p below))

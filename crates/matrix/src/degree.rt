@@ -1,0 +1,174 @@
+// Document 01, condition 1: the degrees of the rows for the shifts, which may be negative, their sum, and the leading matrix.
+ghost use mathlib.Core.Path.{_≡_};
+ghost use Prim.Native.Nat.{_+_, _^_, _<_, _≤_};
+ghost use lib.IntN.{natAbs, _+ℤ_, _-ℤ_};
+ghost use Rattle.rules.specs.Conditions.{maxZ};
+ghost use Rattle.rules.specs.Verdict.{natural};
+ghost use Rattle.rules.specs.Sizes.{most-rows, most-length};
+ghost use Rattle.layout.specs.Flat.{square-place, cell};
+ghost use Rattle.matrix.specs.Degrees.{length-degree, entry-term, flat-row-degree, flat-degree-sum, at-power, leading-number, Sized};
+ghost use Rattle.matrix.specs.Fill.{row-of, array-of};
+use layout::COLUMNS;
+use layout::ENTRY_COEFFICIENTS;
+use layout::LENGTH;
+use layout::ROWS;
+use layout::SQUARE;
+use layout::entry_place;
+
+// length: the number of coefficients of an entry.
+// Its degree: one less, and 0 for the entry 0.
+pub fn entry_degree(length: usize) -> i32
+    requires { ⌜ length ≤ most-length ⌝ }
+    ensures { λ r. ⌜ r ≡ length-degree length ⌝ }
+{
+    if length == 0 { 0 } else { (length - 1) as i32 }
+}
+
+// x and y: numbers whose sizes together are small enough.
+// Their sum.
+fn plus(x: i32, y: i32) -> i32
+    requires { ⌜ natAbs x + natAbs y < 2 ^ 31 ⌝ }
+    ensures { λ r. ⌜ r ≡ x +ℤ y ⌝ }
+{
+    x + y
+}
+
+// x and y: numbers whose sizes together are small enough.
+// Their difference, x less y.
+fn minus(x: i32, y: i32) -> i32
+    requires { ⌜ natAbs x + natAbs y < 2 ^ 31 ⌝ }
+    ensures { λ r. ⌜ r ≡ x -ℤ y ⌝ }
+{
+    x - y
+}
+
+// x and y: any numbers.
+// The larger of the two.
+fn larger(x: i32, y: i32) -> i32
+    ensures { λ r. ⌜ r ≡ maxZ x y ⌝ }
+{
+    if x <= y { y } else { x }
+}
+
+// x: any number.
+// The number itself, or 0 where it is negative.
+pub fn not_negative(x: i32) -> u32
+    ensures { λ r. ⌜ r ≡ natural x ⌝ }
+{
+    if x < 0 { 0 } else { x as u32 }
+}
+
+// i and j: a row and a column.
+// Where their number stands in an array with one number for each entry.
+pub(crate) fn square_place(i: usize, j: usize) -> usize
+    requires { ⌜ (i < most-rows) × (j < most-rows) ⌝ }
+    ensures { λ r. ⌜ r ≡ square-place i j ⌝ }
+{
+    i * ROWS + j
+}
+
+// lengths, shifts: of the entries of P and of its columns. i and j: a row and a column.
+// The degree of the entry there plus the column's shift.
+fn term(lengths: &[usize; SQUARE], shifts: [i32; ROWS], i: usize, j: usize) -> i32
+    requires { ⌜ Sized (now lengths) shifts ⌝ }
+    requires { ⌜ (i < most-rows) × (j < most-rows) ⌝ }
+    ensures { λ r. ⌜ r ≡ entry-term (now (lengths .entry)) shifts i j ⌝ }
+{
+    let degree = entry_degree(lengths[square_place(i, j)]);
+    plus(degree, shifts[j])
+}
+
+// m: the number of columns. i: a row.
+// "the largest, over its entries, of degree plus that column's shift; it may be negative".
+pub fn row_degree(lengths: &[usize; SQUARE], shifts: [i32; ROWS], m: usize, i: usize) -> i32
+    requires { ⌜ Sized (now lengths) shifts ⌝ }
+    requires { ⌜ (0 < m) × ((m ≤ most-rows) × (i < most-rows)) ⌝ }
+    ensures { λ r. ⌜ r ≡ flat-row-degree (now (lengths .entry)) shifts m i ⌝ }
+{
+    let mut j = m - 1;
+    let mut most = term(lengths, shifts, i, j);
+    while 0 < j {
+        j -= 1;
+        most = larger(term(lengths, shifts, i, j), most);
+    }
+    most
+}
+
+// lengths, shifts: of the entries of P and of its columns. m: the number of rows and columns.
+// "the sum of the row degrees less the sum of the shifts".
+pub fn degree_sum(lengths: &[usize; SQUARE], shifts: [i32; ROWS], m: usize) -> i32
+    requires { ⌜ Sized (now lengths) shifts ⌝ }
+    requires { ⌜ m ≤ most-rows ⌝ }
+    ensures { λ r. ⌜ r ≡ flat-degree-sum (now (lengths .entry)) shifts m ⌝ }
+{
+    let mut i = m;
+    let mut sum: i32 = 0;
+    while 0 < i {
+        i -= 1;
+        let excess = minus(row_degree(lengths, shifts, m, i), shifts[i]);
+        sum = plus(excess, sum);
+    }
+    sum
+}
+
+// a: the coefficients of P. i and j: a row and a column. power: any number.
+// The coefficient of the entry there at the power, 0 where there is none or the power is negative.
+fn entry_at(a: &[u32; ENTRY_COEFFICIENTS], power: i32, i: usize, j: usize) -> u32
+    requires { ⌜ (i < most-rows) × (j < most-rows) ⌝ }
+    ensures { λ r. ⌜ r ≡ at-power power (cell (now (a .entry)) i j) ⌝ }
+{
+    if power < 0 {
+        return 0;
+    }
+    let k = power as usize;
+    if k < LENGTH {
+        a[entry_place(i, j, k)]
+    } else {
+        0
+    }
+}
+
+// a, lengths, shifts, m: of P. i: a row.
+// The row i of the leading matrix, and zeros.
+fn leading_row<'a>(
+    a: &'a [u32; ENTRY_COEFFICIENTS],
+    lengths: &'a [usize; SQUARE],
+    shifts: [i32; ROWS],
+    m: usize,
+    i: usize,
+) -> [u32; COLUMNS]
+    requires { ⌜ Sized (now lengths) shifts ⌝ }
+    requires { ⌜ (0 < m) × ((m ≤ most-rows) × (i < most-rows)) ⌝ }
+    ensures { λ r. ⌜ r ≡ row-of m (leading-number (now (a .entry)) (now (lengths .entry)) shifts m i) ⌝ }
+{
+    let degree = row_degree(lengths, shifts, m, i);
+    let mut row = [0; COLUMNS];
+    let mut j = 0;
+    while j < m {
+        let power = minus(degree, shifts[j]);
+        row[j] = entry_at(a, power, i, j);
+        j += 1;
+    }
+    row
+}
+
+// a, lengths, shifts, m: of P.
+// The leading matrix, and zeros.
+pub fn leading_matrix<'a>(
+    a: &'a [u32; ENTRY_COEFFICIENTS],
+    lengths: &'a [usize; SQUARE],
+    shifts: [i32; ROWS],
+    m: usize,
+) -> [[u32; COLUMNS]; ROWS]
+    requires { ⌜ Sized (now lengths) shifts ⌝ }
+    requires { ⌜ (0 < m) × (m ≤ most-rows) ⌝ }
+    ensures { λ r. ⌜ r ≡ array-of m m (leading-number (now (a .entry)) (now (lengths .entry)) shifts m) ⌝ }
+{
+    let mut rows = [[0; COLUMNS]; ROWS];
+    let mut i = 0;
+    while i < m {
+        rows[i] = leading_row(a, lengths, shifts, m, i);
+        i += 1;
+    }
+    rows
+}
