@@ -1,0 +1,94 @@
+-- `reader::answer_file::entry_count` meets its contract. Assumes nothing.
+use mathlib.Core.Path.{_≡_, sym, ap, _∙_}
+use Prim.Native.Nat.{ℕ}
+use native.Mathlib.Omega.{arith}
+use borrow.Author.Needs.{needs}
+use Rattle.rules.specs.Sizes.{most-rows, most-length}
+use Rattle.rules.specs.Reader.{Reader, field}
+use Rattle.rules.specs.Files.{due}
+use Rattle.reader.specs.Records.{count-reader, refuses, gives, then-refused, then-given, length-field}
+use Rattle.reader.specs.Places.{place, taken}
+use Rattle.reader.proofs.answer_file.entry_count.Statement.{statement}
+use Rattle.reader.proofs.answer_file.entry_count.Tie as tie
+
+cast-t10 : tie.Need-cast-t10
+unfolding most-rows
+cast-t10 c = omega arith
+
+read-requires : tie.Need-read-requires
+read-requires c κs = search needs
+
+-- The row number is the rules' field, and so is the column number after it.
+row-read : (c : tie.After-read) → let args = c .before .before .args in
+    taken (c .read .result) ≡ field 1 (due (args .i)) (args .s .now) (place (args .q))
+row-read c = c .read .ensures
+
+column-read : (c : tie.After-read2) → let args = c .before .before .before .before .before .before .args in
+    taken (c .read2 .result) ≡ field 1 (due (args .j)) (args .s .now) (place (c .before .before .q1 .given .0 .1 .0))
+column-read c = c .read2 .ensures
+
+enum-known-x : tie.Need-enum-known-x
+enum-known-x c = search needs
+
+enum-known-q1 : tie.Need-enum-known-q1
+enum-known-q1 c = search needs
+
+cast-t14 : tie.Need-cast-t14
+unfolding most-rows
+cast-t14 c = omega arith
+
+read-requires-2 : tie.Need-read-requires-2
+read-requires-2 c κs = search needs
+
+enum-known-x-2 : tie.Need-enum-known-x-2
+enum-known-x-2 c = search needs
+
+enum-known-q2 : tie.Need-enum-known-q2
+enum-known-q2 c = search needs
+
+cast-t17 : tie.Need-cast-t17
+cast-t17 c = search needs
+
+read-requires-3 : tie.Need-read-requires-3
+read-requires-3 c κs = search needs
+
+returns : tie.Need-returns
+unfolding count-reader
+returns c = sym (then-refused _ (refuses (row-read (c .before .before .before)) (c .before .x .given .1)))
+
+returns-2 : tie.Need-returns-2
+unfolding count-reader
+returns-2 c =
+    let c₅ = c .before .before .before .before .before in
+    let c₇ = c₅ .before .before in
+    sym
+    (then-given _ (gives (row-read (c₇)) (c₅ .q1 .given .1)) ∙ then-refused _ (refuses (column-read (c .before .before .before)) (c .before .x2 .given .1)))
+
+returns-3 : tie.Need-returns-3
+unfolding count-reader most-length
+returns-3 c =
+    let c₄ = c .before .before .before .before in
+    let c₆ = c₄ .before .before in
+    let c₈ = c₆ .before .before in
+    let c₁₀ = c₈ .before .before in
+    c .read3 .ensures
+    ∙ ap (λ (r : Reader ℕ). r (c₁₀ .args .s .now) (place (c .before .before .q2 .given .0 .1 .0))) (length-field most-length)
+    ∙ sym (then-given _ (gives (row-read (c₈)) (c₆ .q1 .given .1)) ∙ then-given _ (gives (column-read (c₄)) (c .before .before .q2 .given .1)))
+
+pub entry-count-spec : {M : Type 1} → statement M
+entry-count-spec =
+    tie.close
+    (tie.spec
+    cast-t10
+    read-requires
+    enum-known-x
+    enum-known-q1
+    cast-t14
+    read-requires-2
+    enum-known-x-2
+    enum-known-q2
+    cast-t17
+    read-requires-3
+    returns
+    returns-2
+    returns-3)

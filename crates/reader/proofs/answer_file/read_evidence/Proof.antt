@@ -1,0 +1,76 @@
+-- `reader::answer_file::read_evidence` meets its contract. Assumes nothing.
+use mathlib.Core.Path.{_≡_, sym, ap, _∙_}
+use native.Mathlib.Omega.{arith}
+use borrow.Author.Needs.{needs}
+use Rattle.rules.specs.Sizes.{most-rows}
+use Rattle.rules.specs.Reader.{Place, field}
+use Rattle.rules.specs.Files.{CE}
+use Rattle.rules.specs.ReaderLaws.{opening}
+use Rattle.reader.specs.declared.fields.Test.the-variants.{Mark}
+use Rattle.reader.specs.Flat.{evidence-into, cells}
+use Rattle.reader.specs.Storing.{into}
+use Rattle.reader.specs.Records.{closed-into, list-numbered, refuses, gives, record-refused, record-given, refused-into, field-near, block-row-moves}
+use Rattle.reader.specs.Tests.{code-of}
+use Rattle.reader.specs.Places.{place, taken}
+use Rattle.reader.proofs.answer_file.read_evidence.Statement.{statement}
+use Rattle.reader.proofs.answer_file.read_evidence.Tie as tie
+
+opened-requires : tie.Need-opened-requires
+opened-requires c κs = search needs
+
+read-requires : tie.Need-read-requires
+read-requires c κs = search needs
+
+-- The mark, at the record's first byte.
+mark-read : (c : tie.After-read) → let args = c .before .before .before .before .args in
+    taken (c .read .result) ≡ field 2 (code-of (Mark 17731)) (args .s .now) (opening (place (args .q)))
+mark-read c =
+    c .read .ensures
+    ∙ ap (λ (p : Place). field 2 (code-of (Mark 17731)) (c .before .before .before .before .args .s .now) p) (ap place (c .before .opened .ensures))
+
+enum-known-x : tie.Need-enum-known-x
+enum-known-x c = search needs
+
+enum-known-q1 : tie.Need-enum-known-q1
+enum-known-q1 c = search needs
+
+block-requires : tie.Need-block-requires
+unfolding cells most-rows
+block-requires c κs = omega (arith, c .before .before .before .before .before .before .before .before .pre)
+
+closed-requires : tie.Need-closed-requires
+closed-requires c κs =
+    let c₅ = c .before .before .before .before .before in
+    let c₇ = c₅ .before .before in
+    list-numbered (c .before .before .block .last .1 .1 .1 .1 .1 .0) _ _ _ _ _ (c .before .before .block .result) (c .before .before .block .ensures)
+    (λ i. block-row-moves _ _) (omega (arith, field-near _ _ _ _ (mark-read (c₇)) (c₅ .q1 .given .1) .counted))
+
+returns : tie.Need-returns
+unfolding CE
+returns c = refused-into _ (record-refused _ (refuses (mark-read (c .before .before .before)) (c .before .x .given .1)))
+
+same-length : tie.Need-same-length
+same-length c = search needs
+
+returns-2 : tie.Need-returns-2
+unfolding CE most-rows
+returns-2 c =
+    let c₆ = c .before .before .before .before .before .before in
+    let c₈ = c₆ .before .before in
+    let c₁₂ = c₈ .before .before .before .before in
+    closed-into _ _ (c .before .before .before .block .result) _ (c .closed .ensures) (c .before .before .before .block .ensures)
+    ∙ sym (ap (into (evidence-into (c₁₂ .args .out .now))) (record-given _ (gives (mark-read (c₈)) (c₆ .q1 .given .1))))
+
+pub read-evidence-spec : {M : Type 1} → statement M
+read-evidence-spec =
+    tie.close
+    (tie.spec
+    opened-requires
+    read-requires
+    enum-known-x
+    enum-known-q1
+    block-requires
+    closed-requires
+    returns
+    same-length
+    returns-2)

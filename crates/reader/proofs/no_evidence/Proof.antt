@@ -1,0 +1,13 @@
+-- `reader::no_evidence` meets its contract. Assumes nothing.
+use mathlib.Core.Path.{refl}
+use Rattle.rules.specs.Sizes.{most-rows}
+use Rattle.reader.specs.Flat.{filled, cells}
+use Rattle.reader.proofs.no_evidence.Statement.{statement}
+use Rattle.reader.proofs.no_evidence.Tie as tie
+
+returns : tie.Need-returns
+unfolding filled most-rows cells
+returns c = refl
+
+pub no-evidence-spec : {M : Type 1} → statement M
+no-evidence-spec = tie.close (tie.spec returns)

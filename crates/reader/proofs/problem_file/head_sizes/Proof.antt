@@ -1,0 +1,103 @@
+-- `reader::problem_file::head_sizes` meets its contract. Assumes nothing.
+use mathlib.Core.Path.{_≡_, sym, ap, _∙_}
+use Prim.Native.Nat.{ℕ}
+use native.Mathlib.Omega.{arith}
+use borrow.Author.Needs.{needs}
+use Rattle.rules.specs.Sizes.{most-rows}
+use Rattle.rules.specs.Reader.{Result, got, field, unless, next}
+use Rattle.rules.specs.Files.{one-to}
+use Rattle.reader.specs.declared.place.Place.{Place as Spot}
+use Rattle.reader.specs.Records.{sizes-reader, refuses, gives, record-refused, record-given, field-near}
+use Rattle.reader.specs.Places.{place, taken}
+use Rattle.reader.proofs.problem_file.head_sizes.Statement.{statement}
+use Rattle.reader.proofs.problem_file.head_sizes.Tie as tie
+
+cast-t11 : tie.Need-cast-t11
+cast-t11 c = search needs
+
+read-requires : tie.Need-read-requires
+read-requires c κs = search needs
+
+-- The fields m and n are the rules' at their places.
+m-read : (c : tie.After-read) → let args = c .before .before .args in
+    taken (c .read .result) ≡ field 1 (unless 3 (one-to most-rows)) (args .s .now) (place (args .q))
+unfolding most-rows
+m-read c = c .read .ensures
+
+n-read : (c : tie.After-read2) → let c₆ = c .before .before .before .before .before .before in
+    taken (c .read2 .result) ≡ field 1 (unless 3 (one-to most-rows)) (c₆ .args .s .now) (place (c .before .before .m .given .0 .1 .0))
+unfolding most-rows
+n-read c = c .read2 .ensures
+
+enum-known-x : tie.Need-enum-known-x
+enum-known-x c = search needs
+
+enum-known-m : tie.Need-enum-known-m
+enum-known-m c = search needs
+
+cast-t15 : tie.Need-cast-t15
+cast-t15 c = search needs
+
+read-requires-2 : tie.Need-read-requires-2
+read-requires-2 c κs = search needs
+
+enum-known-x-2 : tie.Need-enum-known-x-2
+enum-known-x-2 c = search needs
+
+enum-known-n : tie.Need-enum-known-n
+enum-known-n c = search needs
+
+cast-t18 : tie.Need-cast-t18
+cast-t18 c = search needs
+
+cast-t19 : tie.Need-cast-t19
+cast-t19 c = search needs
+
+after-requires : tie.Need-after-requires
+after-requires c κs =
+    let c₅ = c .before .before .before .before .before in
+    let c₇ = c₅ .before .before in
+    omega
+    (arith, field-near _ _ _ _ (m-read (c₇)) (c₅ .m .given .1) .counted, field-near _ _ _ _ (n-read (c .before .before .before)) (c .before .n .given .1) .counted)
+
+returns : tie.Need-returns
+unfolding sizes-reader
+returns c = sym (record-refused _ (refuses (m-read (c .before .before .before)) (c .before .x .given .1)))
+
+returns-2 : tie.Need-returns-2
+unfolding sizes-reader
+returns-2 c =
+    let c₅ = c .before .before .before .before .before in
+    let c₇ = c₅ .before .before in
+    sym
+    (record-given _ (gives (m-read (c₇)) (c₅ .m .given .1)) ∙ record-refused _ (refuses (n-read (c .before .before .before)) (c .before .x2 .given .1)))
+
+returns-3 : tie.Need-returns-3
+unfolding sizes-reader next
+returns-3 c =
+    let c₄ = c .before .before .before .before in
+    let c₆ = c₄ .before .before in
+    let c₈ = c₆ .before .before in
+    let c₁₀ = c₈ .before .before in
+    ap {B = Result (ℕ × ℕ × ℕ)} (λ (q : Spot). got (c₁₀ .args .p, c₆ .m .given .0 .0, c .before .before .n .given .0 .0) (place q))
+    (c .after .ensures)
+    ∙ sym (record-given _ (gives (m-read (c₈)) (c₆ .m .given .1)) ∙ record-given _ (gives (n-read (c₄)) (c .before .before .n .given .1)))
+
+pub head-sizes-spec : {M : Type 1} → statement M
+head-sizes-spec =
+    tie.close
+    (tie.spec
+    cast-t11
+    read-requires
+    enum-known-x
+    enum-known-m
+    cast-t15
+    read-requires-2
+    enum-known-x-2
+    enum-known-n
+    cast-t18
+    cast-t19
+    after-requires
+    returns
+    returns-2
+    returns-3)

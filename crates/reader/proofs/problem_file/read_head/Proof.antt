@@ -1,0 +1,90 @@
+-- `reader::problem_file::read_head` meets its contract. Assumes nothing.
+use mathlib.Core.Path.{_≡_, sym, ap, _∙_}
+use native.Mathlib.Omega.{arith}
+use borrow.Author.Needs.{needs}
+use Rattle.rules.specs.Reader.{Place, field}
+use Rattle.rules.specs.Files.{PR}
+use Rattle.rules.specs.ReaderLaws.{opening}
+use Rattle.reader.specs.declared.fields.Test.the-variants.{Mark, Prime}
+use Rattle.reader.specs.Records.{sizes-reader, refuses, gives, record-refused, record-given, field-near}
+use Rattle.reader.specs.Tests.{code-of}
+use Rattle.reader.specs.Places.{place, taken}
+use Rattle.reader.proofs.problem_file.read_head.Statement.{statement}
+use Rattle.reader.proofs.problem_file.read_head.Tie as tie
+
+opened-requires : tie.Need-opened-requires
+opened-requires c κs = search needs
+
+read-requires : tie.Need-read-requires
+read-requires c κs = search needs
+
+-- The mark, at the record's first byte.
+mark-read : (c : tie.After-read) → let args = c .before .before .before .args in
+    taken (c .read .result) ≡ field 2 (code-of (Mark 21072)) (args .s .now) (opening (place (args .q)))
+mark-read c =
+    c .read .ensures
+    ∙ ap (λ (p : Place). field 2 (code-of (Mark 21072)) (c .before .before .before .args .s .now) p) (ap place (c .before .opened .ensures))
+
+enum-known-x : tie.Need-enum-known-x
+enum-known-x c = search needs
+
+enum-known-q1 : tie.Need-enum-known-q1
+enum-known-q1 c = search needs
+
+read-requires-2 : tie.Need-read-requires-2
+read-requires-2 c κs = search needs
+
+-- The prime, at the place after the mark.
+prime-read : (c : tie.After-read2) → let c₇ = c .before .before .before .before .before .before .before in
+    taken (c .read2 .result) ≡ field 4 (code-of Prime) (c₇ .args .s .now) (place (c .before .before .q1 .given .0 .1 .0))
+prime-read c = c .read2 .ensures
+
+enum-known-x-2 : tie.Need-enum-known-x-2
+enum-known-x-2 c = search needs
+
+enum-known-p : tie.Need-enum-known-p
+enum-known-p c = search needs
+
+head-sizes-requires : tie.Need-head-sizes-requires
+head-sizes-requires c κs =
+    let c₅ = c .before .before .before .before .before in
+    let c₇ = c₅ .before .before in
+    omega
+    (arith, field-near _ _ _ _ (mark-read (c₇)) (c₅ .q1 .given .1) .counted, field-near _ _ _ _ (prime-read (c .before .before .before)) (c .before .p .given .1) .counted)
+
+returns : tie.Need-returns
+unfolding PR
+returns c = sym (record-refused _ (refuses (mark-read (c .before .before .before)) (c .before .x .given .1)))
+
+returns-2 : tie.Need-returns-2
+unfolding PR
+returns-2 c =
+    let c₅ = c .before .before .before .before .before in
+    let c₇ = c₅ .before .before in
+    sym
+    (record-given _ (gives (mark-read (c₇)) (c₅ .q1 .given .1)) ∙ record-refused _ (refuses (prime-read (c .before .before .before)) (c .before .x2 .given .1)))
+
+returns-3 : tie.Need-returns-3
+unfolding PR sizes-reader
+returns-3 c =
+    let c₄ = c .before .before .before .before in
+    let c₆ = c₄ .before .before in
+    let c₈ = c₆ .before .before in
+    c .head-sizes .ensures
+    ∙ sym (record-given _ (gives (mark-read (c₈)) (c₆ .q1 .given .1)) ∙ record-given _ (gives (prime-read (c₄)) (c .before .before .p .given .1)))
+
+pub read-head-spec : {M : Type 1} → statement M
+read-head-spec =
+    tie.close
+    (tie.spec
+    opened-requires
+    read-requires
+    enum-known-x
+    enum-known-q1
+    read-requires-2
+    enum-known-x-2
+    enum-known-p
+    head-sizes-requires
+    returns
+    returns-2
+    returns-3)

@@ -1,0 +1,75 @@
+-- `reader::problem_file::read_orders` meets its contract. Assumes nothing.
+use mathlib.Core.Path.{_≡_, sym, ap, _∙_}
+use native.Mathlib.Omega.{arith}
+use borrow.Author.Needs.{needs}
+use Rattle.rules.specs.Reader.{Place, field}
+use Rattle.rules.specs.Files.{OR}
+use Rattle.rules.specs.ReaderLaws.{opening}
+use Rattle.reader.specs.declared.fields.Test.the-variants.{Mark}
+use Rattle.reader.specs.Flat.{list-into}
+use Rattle.reader.specs.Storing.{into}
+use Rattle.reader.specs.Records.{closed-into, list-numbered, refuses, gives, record-refused, record-given, refused-into, field-near}
+use Rattle.reader.specs.Reach.{any-field}
+use Rattle.reader.specs.Tests.{code-of}
+use Rattle.reader.specs.Places.{place, taken}
+use Rattle.reader.proofs.problem_file.read_orders.Statement.{statement}
+use Rattle.reader.proofs.problem_file.read_orders.Tie as tie
+
+opened-requires : tie.Need-opened-requires
+opened-requires c κs = search needs
+
+read-requires : tie.Need-read-requires
+read-requires c κs = search needs
+
+-- The mark, at the record's first byte.
+mark-read : (c : tie.After-read) → let args = c .before .before .before .before .args in
+    taken (c .read .result) ≡ field 2 (code-of (Mark 21071)) (args .s .now) (opening (place (args .q)))
+mark-read c =
+    c .read .ensures
+    ∙ ap (λ (p : Place). field 2 (code-of (Mark 21071)) (c .before .before .before .before .args .s .now) p) (ap place (c .before .opened .ensures))
+
+enum-known-x : tie.Need-enum-known-x
+enum-known-x c = search needs
+
+enum-known-q1 : tie.Need-enum-known-q1
+enum-known-q1 c = search needs
+
+order-list-requires : tie.Need-order-list-requires
+order-list-requires c κs = search needs
+
+closed-requires : tie.Need-closed-requires
+closed-requires c κs =
+    let c₅ = c .before .before .before .before .before in
+    let c₇ = c₅ .before .before in
+    list-numbered (c .before .before .order-list .last .1 .1 .1 .0) _ _ _ _ _ (c .before .before .order-list .result)
+    (c .before .before .order-list .ensures) (λ j. any-field 1 _) (omega (arith, field-near _ _ _ _ (mark-read (c₇)) (c₅ .q1 .given .1) .counted))
+
+returns : tie.Need-returns
+unfolding OR
+returns c = refused-into _ (record-refused _ (refuses (mark-read (c .before .before .before)) (c .before .x .given .1)))
+
+same-length : tie.Need-same-length
+same-length c = search needs
+
+returns-2 : tie.Need-returns-2
+unfolding OR
+returns-2 c =
+    let c₆ = c .before .before .before .before .before .before in
+    let c₈ = c₆ .before .before in
+    let c₁₂ = c₈ .before .before .before .before in
+    closed-into _ _ (c .before .before .before .order-list .result) _ (c .closed .ensures) (c .before .before .before .order-list .ensures)
+    ∙ sym (ap (into (list-into (c₁₂ .args .out .now))) (record-given _ (gives (mark-read (c₈)) (c₆ .q1 .given .1))))
+
+pub read-orders-spec : {M : Type 1} → statement M
+read-orders-spec =
+    tie.close
+    (tie.spec
+    opened-requires
+    read-requires
+    enum-known-x
+    enum-known-q1
+    order-list-requires
+    closed-requires
+    returns
+    same-length
+    returns-2)

@@ -1,0 +1,75 @@
+-- `reader::problem_file::read_shifts` meets its contract. Assumes nothing.
+use mathlib.Core.Path.{_≡_, sym, ap, _∙_}
+use native.Mathlib.Omega.{arith}
+use borrow.Author.Needs.{needs}
+use Rattle.rules.specs.Reader.{Place, field}
+use Rattle.rules.specs.Files.{SH}
+use Rattle.rules.specs.ReaderLaws.{opening}
+use Rattle.reader.specs.declared.fields.Test.the-variants.{Mark}
+use Rattle.reader.specs.Flat.{shifts-into}
+use Rattle.reader.specs.Storing.{into}
+use Rattle.reader.specs.Records.{closed-into, list-numbered, refuses, gives, record-refused, record-given, refused-into, field-near}
+use Rattle.reader.specs.Shifts.{shift-moves}
+use Rattle.reader.specs.Tests.{code-of}
+use Rattle.reader.specs.Places.{place, taken}
+use Rattle.reader.proofs.problem_file.read_shifts.Statement.{statement}
+use Rattle.reader.proofs.problem_file.read_shifts.Tie as tie
+
+opened-requires : tie.Need-opened-requires
+opened-requires c κs = search needs
+
+read-requires : tie.Need-read-requires
+read-requires c κs = search needs
+
+-- The mark, at the record's first byte.
+mark-read : (c : tie.After-read) → let args = c .before .before .before .args in
+    taken (c .read .result) ≡ field 2 (code-of (Mark 18515)) (args .s .now) (opening (place (args .q)))
+mark-read c =
+    c .read .ensures
+    ∙ ap (λ (p : Place). field 2 (code-of (Mark 18515)) (c .before .before .before .args .s .now) p) (ap place (c .before .opened .ensures))
+
+enum-known-x : tie.Need-enum-known-x
+enum-known-x c = search needs
+
+enum-known-q1 : tie.Need-enum-known-q1
+enum-known-q1 c = search needs
+
+shift-list-requires : tie.Need-shift-list-requires
+shift-list-requires c κs = search needs
+
+closed-requires : tie.Need-closed-requires
+closed-requires c κs =
+    let c₄ = c .before .before .before .before in
+    let c₆ = c₄ .before .before in
+    list-numbered (c .before .shift-list .last .1 .1 .1 .0) _ _ _ _ _ (c .before .shift-list .result) (c .before .shift-list .ensures)
+    (λ j. shift-moves) (omega (arith, field-near _ _ _ _ (mark-read (c₆)) (c₄ .q1 .given .1) .counted))
+
+returns : tie.Need-returns
+unfolding SH
+returns c = refused-into _ (record-refused _ (refuses (mark-read (c .before .before .before)) (c .before .x .given .1)))
+
+same-length : tie.Need-same-length
+same-length c = search needs
+
+returns-2 : tie.Need-returns-2
+unfolding SH
+returns-2 c =
+    let c₅ = c .before .before .before .before .before in
+    let c₇ = c₅ .before .before in
+    let c₁₀ = c₇ .before .before .before in
+    closed-into _ _ (c .before .before .shift-list .result) _ (c .closed .ensures) (c .before .before .shift-list .ensures)
+    ∙ sym (ap (into (shifts-into (c₁₀ .args .out .now))) (record-given _ (gives (mark-read (c₇)) (c₅ .q1 .given .1))))
+
+pub read-shifts-spec : {M : Type 1} → statement M
+read-shifts-spec =
+    tie.close
+    (tie.spec
+    opened-requires
+    read-requires
+    enum-known-x
+    enum-known-q1
+    shift-list-requires
+    closed-requires
+    returns
+    same-length
+    returns-2)

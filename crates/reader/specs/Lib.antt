@@ -1,0 +1,14 @@
+pub mod Places
+pub mod Tests
+pub mod Fields
+pub mod Storing
+pub mod Flat
+pub mod Shifts
+pub mod Reach
+pub mod Extent
+pub mod Records
+pub mod Values
+pub mod Poured
+pub mod Arrays
+pub mod Held
+pub mod Unique

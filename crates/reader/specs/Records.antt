@@ -1,0 +1,161 @@
+-- What the records' code needs of the rules' records.
+--   closing, closed-into     the end of a record
+--   numbered, list-numbered  the record's number after its fields
+--   refuses, gives           one field, in the code's answer
+--   record-refused, record-given, refused-into      a record by its next field
+--   field-near               the place after one field
+--   sizes-reader             the last two fields of the `PR` record
+use mathlib.Core.Path.{_≡_, refl, sym, ap, subst, fun-ext, _∙_}
+use mathlib.Core.Bool.{Bool, cond}
+use mathlib.Core.List.{List}
+use Prim.Native.Nat.{ℕ, _+_, _*_, _≤_, _<_}
+use native.Mathlib.Omega.{arith}
+use lib.Dec.{leb}
+use lib.ListN.{length}
+use Rattle.rules.specs.Sizes.{most-rows, most-length}
+use Rattle.rules.specs.Reader.{Place, Refusal, Result, refused, got, Reader, next, _>>=_, give, field, mark, unless, each}
+use Rattle.rules.specs.Files.{PE, one-to, residue, due, coefficient-test}
+use Rattle.rules.specs.ReaderLaws.{opening, closed}
+use Rattle.reader.specs.declared.place.Place.{Place as Spot}
+use Rattle.reader.specs.declared.place.Stop.{Stop}
+use Rattle.reader.specs.declared.place.Field.{Field}
+use Rattle.reader.specs.declared.place.Field.the-variants.{Value, Off as Field-Off}
+use Rattle.reader.specs.declared.place.Going.{Going}
+use Rattle.reader.specs.declared.place.Going.the-variants.{On, Off}
+use Rattle.reader.specs.Places.{place, refusal, taken, going, closed-of, Numbered}
+use Rattle.reader.specs.Tests.{between}
+use Rattle.reader.specs.Fields.{between-high}
+use Rattle.reader.specs.Extent.{length-moves}
+use Rattle.reader.specs.Storing.{into, into-got}
+use Rattle.reader.specs.Reach.{Near, Moved, Moves, All, moves-bind, moves-each, moves-wider, moved-got, Any, any-field}
+
+-- The end of a record: the next one has the next number.
+abbrev pub closing : {A : Type 0} → Result A → Result A
+closing r = next r (λ a q. got a (closed q))
+
+going-closed : {B : Type 0} (b : B) (g : Going) → going (closed-of g) b ≡ closing (going g b)
+unfolding next
+going-closed b (On q) = refl
+going-closed b (Off x) = refl
+
+into-closing : {A B : Type 0} (h : A → B) (m : Result A) → into h (closing m) ≡ closing (into h m)
+unfolding next into
+into-closing h (refused x) = refl
+into-closing h (got a q) = refl
+
+-- A record whose last fields were stored.
+pub closed-into : {A B : Type 0} (b : B) (h : A → B) (g : Going) (m : Result A) {r : Going} → r ≡ closed-of g → going g b ≡ into h m → going r b ≡ into h (closing m)
+closed-into b h g m e gave = ap (λ (x : Going). going x b) e ∙ going-closed b g ∙ ap closing gave ∙ sym (into-closing h m)
+
+-- Where a reader that stored what it read left the reading.
+pub stored-near : {A B : Type 0} (Q : A → Type 0) (h : A → B) {b : B} {k w : ℕ} {p q : Place} (m : Result A) → into h m ≡ got b q → Moved Q k w p m → Near k w p q
+stored-near Q h {k = k} {w = w} {p = p} m e near = subst (λ r. Moved Q k w p r) (into-got h m e .1) near .1
+
+-- How many records have passed.
+pub numbered : {A B : Type 0} (Q : A → Type 0) (b : B) (h : A → B) (k w : ℕ) (p : Place) (g : Going) (m : Result A) → going g b ≡ into h m → Moved Q k w p m
+    → p .number + k < 65_535 → Numbered g
+numbered Q b h k w p (On q) m gave near le = omega (arith, stored-near Q h m (sym gave) near .counted)
+numbered Q b h k w p (Off x) m gave near le = tt
+
+-- No record passes in a list of fields.
+pub list-numbered : {A B : Type 0} {Q : A → Type 0} {w : ℕ} (b : B) (h : List A → B) (n : ℕ) (f : ℕ → Reader A) (s : List ℕ) (p : Place) (g : Going)
+    → going g b ≡ into h (each n f s p) → ((i : ℕ) → Moves Q 0 w (f i)) → p .number < 65_535 → Numbered g
+list-numbered {w = w} b h n f s p g gave moves le = numbered _ b h (n * 0) (n * w) p g (each n f s p) gave (moves-each n f moves .from s p) (omega arith)
+
+-- A field that is refused, or given, in the code's answer.
+module _ {r : Field} {m : Result ℕ} (gave : taken r ≡ m) where
+  pub refuses : {x : Stop} → r ≡ Field-Off x → m ≡ refused (refusal x)
+  refuses e = sym gave ∙ ap taken e
+
+  pub gives : {v : ℕ} {q : Spot} → r ≡ Value v q → m ≡ got v (place q)
+  gives e = sym gave ∙ ap taken e
+
+-- A record whose next field is refused, or given.
+module _ {A B : Type 0} (f : A → Place → Result B) {m : Result A} where
+  pub record-refused : {x : Refusal} → m ≡ refused x → closing (next m f) ≡ refused x
+  unfolding next
+  record-refused e = ap (λ (r : Result A). closing (next r f)) e
+
+  pub record-given : {a : A} {q : Place} → m ≡ got a q → closing (next m f) ≡ closing (f a q)
+  unfolding next
+  record-given e = ap (λ (r : Result A). closing (next r f)) e
+
+-- The same before a record's end.
+module _ {A B : Type 0} (f : A → Place → Result B) {m : Result A} where
+  pub then-refused : {x : Refusal} → m ≡ refused x → next m f ≡ refused x
+  unfolding next
+  then-refused e = ap (λ (r : Result A). next r f) e
+
+  pub then-given : {a : A} {q : Place} → m ≡ got a q → next m f ≡ f a q
+  unfolding next
+  then-given e = ap (λ (r : Result A). next r f) e
+
+-- A record that is refused is refused with its room.
+pub refused-into : {A B : Type 0} (h : A → B) {m : Result A} {x : Refusal} → m ≡ refused x → refused x ≡ into h m
+unfolding into
+refused-into h e = sym (ap (into h) e)
+
+-- The place after one field.
+pub field-near : (k : ℕ) (test : ℕ → ℕ) (s : List ℕ) (p : Place) {r : Field} {v : ℕ} {q : Spot} → taken r ≡ field k test s p → r ≡ Value v q → Near 0 k p (place q)
+field-near k test s p gave e = moved-got (any-field k test) s p (sym gave ∙ ap taken e) .1
+
+-- The fields m and n of the `PR` record.
+unfoldable pub sizes-reader : ℕ → Reader (ℕ × ℕ × ℕ)
+sizes-reader p = λ s q. closing ((field 1 (unless 3 (one-to most-rows)) >>= λ m. field 1 (unless 3 (one-to most-rows)) >>= λ n. give (p, m, n)) s q)
+
+-- No record passes in a row of coefficients.
+pub block-row-moves : (p n : ℕ) → Moves Any 0 (n * 4) (each n (λ k. field 4 (residue p)))
+block-row-moves p n = moves-wider 0 (n * 4) (moves-each n _ (λ k. any-field 4 _)) (λ l h. tt) (omega arith) (omega arith)
+
+-- The numbers of the `PE` record: row, column, count.
+unfoldable pub count-reader : ℕ → ℕ → Reader ℕ
+count-reader i j = field 1 (due i) >>= λ a. field 1 (due j) >>= λ b. field 1 (unless 3 (λ L. leb L most-length))
+
+-- The count is a size: no more coefficients than an entry may have.
+pub count-moves : (i j : ℕ) → Moves (λ L. L ≤ most-length) 0 3 (count-reader i j)
+unfolding count-reader
+count-moves i j = moves-bind (any-field 1 _) (λ a qa. moves-bind (any-field 1 _) (λ b qb. length-moves))
+
+-- The size test of a count, in the code's tests.
+pub length-field : (most : ℕ) → field 1 (unless 3 (between 0 most)) ≡ field 1 (unless 3 (λ L. leb L most))
+length-field most = ap (λ (t : ℕ → ℕ). field 1 t) (fun-ext (λ v. ap (λ (b : Bool). cond {A = ℕ} b 0 3) (between-high 0 most v (omega arith))))
+
+next-assoc : {A B C : Type 0} (m : Result A) (f : A → Place → Result B) (g : B → Place → Result C) → next (next m f) g ≡ next m (λ a q. next (f a q) g)
+unfolding next
+next-assoc (refused x) f g = refl
+next-assoc (got a q) f g = refl
+
+-- The `PE` record after its mark: its numbers, then as many coefficients as they say.
+pub PE-after-mark : (p i j : ℕ) (s : List ℕ) (at : Place) {v : ℕ} {q : Place} → mark 0x50 0x45 s (opening at) ≡ got v q
+    → PE p i j s at ≡ closing (next (count-reader i j s q) (λ L q′. each L (λ k. field 4 (coefficient-test p L k)) s q′))
+unfolding PE count-reader
+PE-after-mark p i j s at {v} {q} e =
+    record-given _ e
+    ∙ sym
+    (ap closing
+    (next-assoc (field 1 (due i) s q) (λ a q′. next (field 1 (due j) s q′) (λ b q″. field 1 (unless 3 (λ L. leb L most-length)) s q″))
+    (λ L q′. each L (λ k. field 4 (coefficient-test p L k)) s q′)
+    ∙ ap (λ (f : ℕ → Place → Result (List ℕ)). next (field 1 (due i) s q) f)
+    (fun-ext
+    (λ a.
+    fun-ext
+    (λ q′.
+    next-assoc (field 1 (due j) s q′) (λ b q″. field 1 (unless 3 (λ L. leb L most-length)) s q″)
+    (λ L q″. each L (λ k. field 4 (coefficient-test p L k)) s q″))))))
+
+-- Numbers stored beside their count.
+module _ {B C : Type 0} (c : ℕ → C) (n : ℕ) where
+  going-beside : (b : B) (g : Going) → going {A = C × B} g (c n, b) ≡ into {B = C × B} (λ (y : B). (c n, y)) (going g b)
+  unfolding into
+  going-beside b (On q) = refl
+  going-beside b (Off x) = refl
+
+  into-beside : {A : Type 0} (Q : A → Type 0) (h : List A → B) (k w : ℕ) (p : Place) (m : Result (List A)) → Moved (λ l. All Q l × (length l ≡ n)) k w p m
+      → into {B = C × B} (λ (y : B). (c n, y)) (into h m) ≡ into {B = C × B} (λ l. (c (length l), h l)) m
+  unfolding into
+  into-beside Q h k w p (refused x) sized = refl
+  into-beside Q h k w p (got l q) sized = ap {B = Result (C × B)} (λ (j : ℕ). got (c j, h l) q) (sym (sized .0 .1))
+
+  pub beside : {A : Type 0} (b : B) (h : List A → B) (Q : A → Type 0) (k w : ℕ) (p : Place) (g : Going) (m : Result (List A)) → going g b ≡ into h m
+      → Moved (λ l. All Q l × (length l ≡ n)) k w p m → going {A = C × B} g (c n, b) ≡ into {B = C × B} (λ l. (c (length l), h l)) m
+  beside b h Q k w p g m gave sized = going-beside b g ∙ ap (into {B = C × B} (λ (y : B). (c n, y))) gave ∙ into-beside Q h k w p m sized

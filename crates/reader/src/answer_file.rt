@@ -1,0 +1,179 @@
+// The records of the answer file.
+ghost use mathlib.Core.Path.{_≡_};
+ghost use Prim.Native.Nat.{_+_, _*_, _≤_, _<_};
+ghost use lib.ListN.{length};
+ghost use Rattle.rules.specs.Sizes.{most-rows};
+ghost use Rattle.rules.specs.Reader.{each};
+ghost use Rattle.rules.specs.Files.{PE, CE, entries-reader};
+ghost use Rattle.reader.specs.Places.{place, going, taken};
+ghost use Rattle.reader.specs.Storing.{into};
+ghost use Rattle.reader.specs.Flat.{put-entry, row-into, entries-into, evidence-into, cells, entry-cells, answer-into};
+ghost use Rattle.reader.specs.Records.{count-reader};
+ghost use Rattle.reader.specs.Values.{answer-parts};
+use crate::fields::Test;
+use crate::fields::read;
+use crate::place::Field;
+use crate::place::Going;
+use crate::place::Place;
+use crate::place::closed;
+use crate::place::finish;
+use crate::place::opened;
+use crate::runs::block;
+use crate::runs::run;
+use layout::LENGTH;
+use layout::ROWS;
+
+// The marks, low byte first.
+const PE: u32 = 0x50 + 256 * 0x45;
+
+const CE: u32 = 0x43 + 256 * 0x45;
+
+// i and j: a row and a column of a square.
+// Their place, row by row.
+fn cell_at(i: usize, j: usize) -> usize
+    requires { ⌜ (i < most-rows) × (j < most-rows) ⌝ }
+    ensures { λ r. ⌜ r ≡ i * most-rows + j ⌝ }
+{
+    i * ROWS + j
+}
+
+// s: the file. q: the place after the mark of a `PE` record. i and j: the row and the column that are due.
+// The count of its coefficients and the place after it, or the refusal.
+fn entry_count(s: &[u8], q: Place, i: usize, j: usize) -> Field
+    requires { ⌜ (i < most-rows) × (j < most-rows) ⌝ }
+    ensures { λ r. ⌜ taken r ≡ count-reader i j (now (s .entry)) (place q) ⌝ }
+{
+    match read(s, q, Test::Due(i as u32)) {
+        Field::Off(x) => Field::Off(x),
+        Field::Value(_, q1) => match read(s, q1, Test::Due(j as u32)) {
+            Field::Off(x) => Field::Off(x),
+            Field::Value(_, q2) => read(s, q2, Test::Size(0, LENGTH as u32)),
+        },
+    }
+}
+
+// s: the file. q: the place of the `PE` record of row i and column j, modulo p. lengths and entries: where its length and its coefficients go.
+// How the reading goes on after the record.
+fn read_entry(
+    s: &[u8],
+    q: Place,
+    p: u32,
+    i: usize,
+    j: usize,
+    lengths: &mut [usize],
+    entries: &mut [u32],
+) -> Going
+    requires { ⌜ (q .number < 65535) × (i < most-rows) × (j < most-rows) × (length (now lengths) ≡ cells) × (length (now entries) ≡ entry-cells) ⌝ }
+    ensures { λ r. ⌜ going r (now (lengths .exit), now (entries .exit)) ≡ into (put-entry i (now (lengths .entry), now (entries .entry)) j) (PE p i j (now (s .entry)) (place q)) ⌝ }
+{
+    match read(s, opened(q), Test::Mark(PE)) {
+        Field::Off(x) => Going::Off(x),
+        Field::Value(_, q1) => match entry_count(s, q1, i, j) {
+            Field::Off(x) => Going::Off(x),
+            Field::Value(l, q2) => {
+                let count = l as usize;
+                let cell = cell_at(i, j);
+                lengths[cell] = count;
+                closed(run(s, q2, p, count, count, entries, cell * LENGTH))
+            }
+        },
+    }
+}
+
+// s: the file. q: the place of the first of m `PE` records of row i, modulo p. lengths and entries: where their lengths and their coefficients go.
+// How the reading goes on after them.
+fn read_row(
+    s: &[u8],
+    q: Place,
+    p: u32,
+    m: usize,
+    i: usize,
+    lengths: &mut [usize],
+    entries: &mut [u32],
+) -> Going
+    requires { ⌜ (q .number + m < 65535) × (m ≤ most-rows) × (i < most-rows) × (length (now lengths) ≡ cells) × (length (now entries) ≡ entry-cells) ⌝ }
+    ensures { λ r. ⌜ going r (now (lengths .exit), now (entries .exit)) ≡ into (row-into (now (lengths .entry), now (entries .entry)) i) (each m (λ j. PE p i j) (now (s .entry)) (place q)) ⌝ }
+{
+    let mut here = q;
+    let mut j = 0;
+    while j < m {
+        match read_entry(s, here, p, i, j, lengths, entries) {
+            Going::Off(x) => return Going::Off(x),
+            Going::On(next) => {
+                here = next;
+            }
+        }
+        j += 1;
+    }
+    Going::On(here)
+}
+
+// s: the file. q: the place of the first `PE` record of m rows of m, modulo p. lengths and entries: where their lengths and their coefficients go.
+// How the reading goes on after them.
+pub fn read_entries(
+    s: &[u8],
+    q: Place,
+    p: u32,
+    m: usize,
+    lengths: &mut [usize],
+    entries: &mut [u32],
+) -> Going
+    requires { ⌜ (q .number + cells < 65535) × (m ≤ most-rows) × (length (now lengths) ≡ cells) × (length (now entries) ≡ entry-cells) ⌝ }
+    ensures { λ r. ⌜ going r (now (lengths .exit), now (entries .exit)) ≡ into (entries-into (now (lengths .entry), now (entries .entry))) (entries-reader p m (now (s .entry)) (place q)) ⌝ }
+{
+    let mut here = q;
+    let mut i = 0;
+    while i < m {
+        match read_row(s, here, p, m, i, lengths, entries) {
+            Going::Off(x) => return Going::Off(x),
+            Going::On(next) => {
+                here = next;
+            }
+        }
+        i += 1;
+    }
+    Going::On(here)
+}
+
+// s: the file. q: the place of the `CE` record: m rows of n numbers modulo p. out: where they go.
+// How the reading goes on after the record.
+pub fn read_evidence(s: &[u8], q: Place, p: u32, m: usize, n: usize, out: &mut [u32]) -> Going
+    requires { ⌜ (q .number < 65535) × (m ≤ most-rows) × (n ≤ most-rows) × (length (now out) ≡ cells) ⌝ }
+    ensures { λ r. ⌜ going r (now (out .exit)) ≡ into (evidence-into (now (out .entry))) (CE p m n (now (s .entry)) (place q)) ⌝ }
+{
+    match read(s, opened(q), Test::Mark(CE)) {
+        Field::Off(x) => Going::Off(x),
+        Field::Value(_, q1) => closed(block(s, q1, p, m, n, out, 0, ROWS)),
+    }
+}
+
+// s: the file. q: its front. p, m and n: the problem's. evidence: whether the `CE` record is due. lengths, entries and out: where lengths, coefficients and C go.
+// How the reading goes on, which is at the file's end.
+pub fn read_all(
+    s: &[u8],
+    q: Place,
+    p: u32,
+    m: usize,
+    n: usize,
+    evidence: bool,
+    lengths: &mut [usize],
+    entries: &mut [u32],
+    out: &mut [u32],
+) -> Going
+    requires { ⌜ (q .number ≡ 0) × (m ≤ most-rows) × (n ≤ most-rows) ⌝ }
+    requires { ⌜ (length (now lengths) ≡ cells) × (length (now entries) ≡ entry-cells) × (length (now out) ≡ cells) ⌝ }
+    ensures { λ r. ⌜ going r (now (lengths .exit), now (entries .exit), now (out .exit)) ≡ into (answer-into (now (lengths .entry), now (entries .entry), now (out .entry))) (answer-parts p m n evidence (now (s .entry)) (place q)) ⌝ }
+{
+    match read_entries(s, q, p, m, lengths, entries) {
+        Going::Off(x) => Going::Off(x),
+        Going::On(q1) => {
+            if !evidence {
+                return finish(s, q1);
+            }
+            match read_evidence(s, q1, p, m, n, out) {
+                Going::Off(x) => Going::Off(x),
+                Going::On(q2) => finish(s, q2),
+            }
+        }
+    }
+}

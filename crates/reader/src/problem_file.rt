@@ -1,0 +1,246 @@
+// The records of the problem file.
+ghost use mathlib.Core.Path.{_≡_};
+ghost use Prim.Native.Nat.{ℕ, _+_, _*_, _≤_, _<_};
+ghost use lib.ListN.{length, getD};
+ghost use Rattle.rules.specs.Sizes.{most-rows, most-order};
+ghost use Rattle.rules.specs.Reader.{each, field, unless};
+ghost use Rattle.rules.specs.Files.{PR, OR, SH, FC, one-to, two's-complement};
+ghost use Rattle.reader.specs.Places.{place, going, headed};
+ghost use Rattle.reader.specs.Storing.{into};
+ghost use Rattle.reader.specs.Flat.{list-into, shifts-into, put-column, columns-into, column-size, coefficients, filled, body-into};
+ghost use Rattle.reader.specs.Shifts.{shift-reader};
+ghost use Rattle.reader.specs.Records.{sizes-reader};
+ghost use Rattle.reader.specs.Values.{body-reader};
+use crate::fields::Test;
+use crate::fields::read;
+use crate::place::Field;
+use crate::place::Going;
+use crate::place::Place;
+use crate::place::Stop;
+use crate::place::after;
+use crate::place::closed;
+use crate::place::finish;
+use crate::place::opened;
+use crate::runs::block;
+use layout::ORDER;
+use layout::ROWS;
+
+// The marks, low byte first.
+const PR: u32 = 0x50 + 256 * 0x52;
+
+const OR: u32 = 0x4F + 256 * 0x52;
+
+const SH: u32 = 0x53 + 256 * 0x48;
+
+const FC: u32 = 0x46 + 256 * 0x43;
+
+// What the `PR` record holds.
+pub struct Head {
+    pub p: u32,
+    pub m: usize,
+    pub n: usize,
+}
+
+// What reading the `PR` record gives: its numbers and the place after it, or the refusal.
+pub enum Headed {
+    Got(Head, Place),
+    Off(Stop),
+}
+
+// s: the file. q: the place of the first of n orders. out: where they go.
+// How the reading goes on after them.
+fn order_list(s: &[u8], q: Place, n: usize, out: &mut [usize]) -> Going
+    requires { ⌜ n ≤ length (now out) ⌝ }
+    ensures { λ r. ⌜ going r (now (out .exit)) ≡ into (list-into (now (out .entry))) (each n (λ j. field 1 (unless 3 (one-to most-order))) (now (s .entry)) (place q)) ⌝ }
+{
+    let mut here = q;
+    let mut j = 0;
+    while j < n {
+        match read(s, here, Test::Size(1, ORDER as u32)) {
+            Field::Off(x) => return Going::Off(x),
+            Field::Value(v, next) => {
+                out[j] = v as usize;
+                here = next;
+            }
+        }
+        j += 1;
+    }
+    Going::On(here)
+}
+
+// v: a number of two bytes.
+// The signed number whose two's complement it is.
+fn signed16(v: u32) -> i32
+    requires { ⌜ v < 65536 ⌝ }
+    ensures { λ r. ⌜ r ≡ two's-complement v ⌝ }
+{
+    if v < 32768 {
+        return v as i32;
+    }
+    v as i32 - 65536
+}
+
+// s: the file. q: the place of the first of m shifts. out: where they go.
+// How the reading goes on after them.
+fn shift_list(s: &[u8], q: Place, m: usize, out: &mut [i32]) -> Going
+    requires { ⌜ m ≤ length (now out) ⌝ }
+    ensures { λ r. ⌜ going r (now (out .exit)) ≡ into (shifts-into (now (out .entry))) (each m (λ i. shift-reader) (now (s .entry)) (place q)) ⌝ }
+{
+    let mut here = q;
+    let mut i = 0;
+    while i < m {
+        match read(s, here, Test::Shift) {
+            Field::Off(x) => return Going::Off(x),
+            Field::Value(v, next) => {
+                out[i] = signed16(v);
+                here = next;
+            }
+        }
+        i += 1;
+    }
+    Going::On(here)
+}
+
+// s: the file. q: the place after the prime p of the `PR` record.
+// The record's numbers and the place after it, or the refusal.
+fn head_sizes(s: &[u8], q: Place, p: u32) -> Headed
+    requires { ⌜ q .number < 65535 ⌝ }
+    ensures { λ r. ⌜ headed r ≡ sizes-reader p (now (s .entry)) (place q) ⌝ }
+{
+    match read(s, q, Test::Size(1, ROWS as u32)) {
+        Field::Off(x) => Headed::Off(x),
+        Field::Value(m, q1) => match read(s, q1, Test::Size(1, ROWS as u32)) {
+            Field::Off(x) => Headed::Off(x),
+            Field::Value(n, q2) => Headed::Got(
+                Head {
+                    p,
+                    m: m as usize,
+                    n: n as usize,
+                },
+                after(q2),
+            ),
+        },
+    }
+}
+
+// s: the file. q: the place of the `PR` record.
+// The record's numbers and the place after it, or the refusal.
+pub fn read_head(s: &[u8], q: Place) -> Headed
+    requires { ⌜ q .number < 65535 ⌝ }
+    ensures { λ r. ⌜ headed r ≡ PR (now (s .entry)) (place q) ⌝ }
+{
+    match read(s, opened(q), Test::Mark(PR)) {
+        Field::Off(x) => Headed::Off(x),
+        Field::Value(_, q1) => match read(s, q1, Test::Prime) {
+            Field::Off(x) => Headed::Off(x),
+            Field::Value(p, q2) => head_sizes(s, q2, p),
+        },
+    }
+}
+
+// s: the file. q: the place of the `OR` record. n: the columns. out: where their orders go.
+// How the reading goes on after the record.
+pub fn read_orders(s: &[u8], q: Place, n: usize, out: &mut [usize]) -> Going
+    requires { ⌜ (q .number < 65535) × (n ≤ length (now out)) ⌝ }
+    ensures { λ r. ⌜ going r (now (out .exit)) ≡ into (list-into (now (out .entry))) (OR n (now (s .entry)) (place q)) ⌝ }
+{
+    match read(s, opened(q), Test::Mark(OR)) {
+        Field::Off(x) => Going::Off(x),
+        Field::Value(_, q1) => closed(order_list(s, q1, n, out)),
+    }
+}
+
+// s: the file. q: the place of the `SH` record. m: the rows. out: where their shifts go.
+// How the reading goes on after the record.
+pub fn read_shifts(s: &[u8], q: Place, m: usize, out: &mut [i32]) -> Going
+    requires { ⌜ (q .number < 65535) × (m ≤ length (now out)) ⌝ }
+    ensures { λ r. ⌜ going r (now (out .exit)) ≡ into (shifts-into (now (out .entry))) (SH m (now (s .entry)) (place q)) ⌝ }
+{
+    match read(s, opened(q), Test::Mark(SH)) {
+        Field::Off(x) => Going::Off(x),
+        Field::Value(_, q1) => closed(shift_list(s, q1, m, out)),
+    }
+}
+
+// j: a column of F.
+// Where its coefficients start in the flat array.
+fn column_at(j: usize) -> usize
+    requires { ⌜ j < most-rows ⌝ }
+    ensures { λ r. ⌜ r ≡ j * column-size ⌝ }
+{
+    j * (ROWS * ORDER)
+}
+
+// s: the file. q: the place of the `FC` record of column j: m rows of d coefficients modulo p. out: where they go.
+// How the reading goes on after the record.
+fn read_column(s: &[u8], q: Place, p: u32, m: usize, d: usize, j: usize, out: &mut [u32]) -> Going
+    requires { ⌜ (q .number < 65535) × (m ≤ most-rows) × (d ≤ most-order) × (j < most-rows) × (length (now out) ≡ coefficients) ⌝ }
+    ensures { λ r. ⌜ going r (now (out .exit)) ≡ into (put-column (now (out .entry)) j) (FC p m d j (now (s .entry)) (place q)) ⌝ }
+{
+    match read(s, opened(q), Test::Mark(FC)) {
+        Field::Off(x) => Going::Off(x),
+        Field::Value(_, q1) => match read(s, q1, Test::Due(j as u32)) {
+            Field::Off(x) => Going::Off(x),
+            Field::Value(_, q2) => closed(block(s, q2, p, m, d, out, column_at(j), ORDER)),
+        },
+    }
+}
+
+// s: the file. q: the place of the first of n `FC` records of m rows modulo p. orders: the columns' orders. out: where the coefficients go.
+// How the reading goes on after them.
+pub fn read_columns(
+    s: &[u8],
+    q: Place,
+    p: u32,
+    m: usize,
+    n: usize,
+    orders: &[usize],
+    out: &mut [u32],
+) -> Going
+    requires { ⌜ (q .number + n < 65535) × (m ≤ most-rows) × (n ≤ most-rows) × (n ≤ length (now orders)) ⌝ }
+    requires { ⌜ ((j : ℕ) → getD (now orders) j 0 ≤ most-order) ⌝ }
+    requires { ⌜ length (now out) ≡ coefficients ⌝ }
+    ensures { λ r. ⌜ going r (now (out .exit)) ≡ into (columns-into (now (out .entry))) (each n (λ j. FC p m (getD (now (orders .entry)) j 0) j) (now (s .entry)) (place q)) ⌝ }
+{
+    let mut here = q;
+    let mut j = 0;
+    while j < n {
+        match read_column(s, here, p, m, orders[j], j, out) {
+            Going::Off(x) => return Going::Off(x),
+            Going::On(next) => {
+                here = next;
+            }
+        }
+        j += 1;
+    }
+    Going::On(here)
+}
+
+// s: the file. q: the place after its `PR` record, which holds p, m and n. orders, shifts and out: where orders, shifts and coefficients go.
+// How the reading goes on, which is at the file's end.
+pub fn read_body(
+    s: &[u8],
+    q: Place,
+    p: u32,
+    m: usize,
+    n: usize,
+    orders: &mut [usize],
+    shifts: &mut [i32],
+    out: &mut [u32],
+) -> Going
+    requires { ⌜ (q .number < 2) × (m ≤ most-rows) × (n ≤ most-rows) ⌝ }
+    requires { ⌜ now orders ≡ filled most-rows 0 ⌝ }
+    requires { ⌜ (length (now shifts) ≡ most-rows) × (length (now out) ≡ coefficients) ⌝ }
+    ensures { λ r. ⌜ going r (now (orders .exit), now (shifts .exit), now (out .exit)) ≡ into (body-into (now (orders .entry), now (shifts .entry), now (out .entry))) (body-reader p m n (now (s .entry)) (place q)) ⌝ }
+{
+    match read_orders(s, q, n, orders) {
+        Going::Off(x) => Going::Off(x),
+        Going::On(q1) => match read_shifts(s, q1, m, shifts) {
+            Going::Off(x) => Going::Off(x),
+            Going::On(q2) => match read_columns(s, q2, p, m, n, &*orders, out) {
+                Going::Off(x) => Going::Off(x),
+                Going::On(q3) => finish(s, q3),
+            },
+        },
+    }
+}

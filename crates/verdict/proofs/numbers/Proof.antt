@@ -1,0 +1,82 @@
+use borrow.Author.Needs.{needs}
+use mathlib.Core.Path.{sym, ap}
+use Rattle.verdict.specs.Meant.{four-of-verdict}
+use Rattle.verdict.proofs.numbers.Statement.{statement}
+use Rattle.verdict.proofs.numbers.Tie as tie
+
+enum-known-v : tie.Need-enum-known-v
+enum-known-v c = search needs
+
+enum-known-v-2 : tie.Need-enum-known-v-2
+enum-known-v-2 c = search needs
+
+enum-told : tie.Need-enum-told
+enum-told c = search needs
+
+enum-told-2 : tie.Need-enum-told-2
+enum-told-2 c = search needs
+
+enum-known-v-3 : tie.Need-enum-known-v-3
+enum-known-v-3 c = search needs
+
+enum-known-v-4 : tie.Need-enum-known-v-4
+enum-known-v-4 c = search needs
+
+enum-told-3 : tie.Need-enum-told-3
+enum-told-3 c = search needs
+
+enum-known-v-5 : tie.Need-enum-known-v-5
+enum-known-v-5 c = search needs
+
+enum-known-v-6 : tie.Need-enum-known-v-6
+enum-known-v-6 c = search needs
+
+returns : tie.Need-returns
+returns c = sym (ap four-of-verdict (c .before .v .given .1))
+
+returns-2 : tie.Need-returns-2
+returns-2 c = sym (ap four-of-verdict (c .before .v2 .given .1))
+
+returns-3 : tie.Need-returns-3
+returns-3 c = sym (ap four-of-verdict (c .enum-told .given .1))
+
+returns-4 : tie.Need-returns-4
+returns-4 c = sym (ap four-of-verdict (c .enum-told2 .given .1))
+
+returns-5 : tie.Need-returns-5
+returns-5 c = sym (ap four-of-verdict (c .before .v3 .given .1))
+
+returns-6 : tie.Need-returns-6
+returns-6 c = sym (ap four-of-verdict (c .before .v4 .given .1))
+
+returns-7 : tie.Need-returns-7
+returns-7 c = sym (ap four-of-verdict (c .enum-told3 .given .1))
+
+returns-8 : tie.Need-returns-8
+returns-8 c = sym (ap four-of-verdict (c .before .v5 .given .1))
+
+returns-9 : tie.Need-returns-9
+returns-9 c = sym (ap four-of-verdict (c .before .v6 .given .1))
+
+pub numbers-spec : {M : Type 1} → statement M
+numbers-spec =
+    tie.close
+    (tie.spec
+    enum-known-v
+    enum-known-v-2
+    enum-told
+    enum-told-2
+    enum-known-v-3
+    enum-known-v-4
+    enum-told-3
+    enum-known-v-5
+    enum-known-v-6
+    returns
+    returns-2
+    returns-3
+    returns-4
+    returns-5
+    returns-6
+    returns-7
+    returns-8
+    returns-9)

@@ -1,0 +1,113 @@
+// The verdict: one case for each kind of answer, and the one number that packs its four.
+ghost use mathlib.Core.Path.{_≡_};
+ghost use Prim.Native.Nat.{_+_, _*_};
+ghost use Rattle.rules.specs.Verdict.{packed};
+ghost use Rattle.verdict.specs.Meant.{four-of, four-of-verdict};
+
+// A refusal of reading: its code, file and record, the offset of the field, and that of the record's first byte.
+pub struct Refusal {
+    pub code: u8,
+    pub file: u8,
+    pub number: u16,
+    pub at: u32,
+    pub start: u32,
+}
+
+pub enum Verdict {
+    // 0, with the degree sum
+    Passed(u32),
+    // 1 to 8
+    Unread(Refusal),
+    // 9
+    NotReduced,
+    // 10
+    NotMonomial,
+    // 11, with row and column
+    BelowOrder(u16, u32),
+    // 12, with row and column
+    AtOrder(u16, u32),
+    // 13
+    LowRank,
+    // 14, with the bytes needed
+    NoRoom(u32),
+    // 0, with the bytes written
+    Written(u32),
+}
+
+// The four numbers of a verdict.
+pub struct Four {
+    pub code: u8,
+    pub file: u8,
+    pub number: u16,
+    pub at: u32,
+}
+
+// The numbers that document 01 gives for each kind of answer.
+pub fn numbers(v: Verdict) -> Four
+    ensures { λ r. ⌜ four-of r ≡ four-of-verdict v ⌝ }
+{
+    match v {
+        Verdict::Passed(d) => Four {
+            code: 0,
+            file: 0,
+            number: 0,
+            at: d,
+        },
+        Verdict::Unread(r) => Four {
+            code: r.code,
+            file: r.file,
+            number: r.number,
+            at: r.at,
+        },
+        Verdict::NotReduced => Four {
+            code: 9,
+            file: 0,
+            number: 0,
+            at: 0,
+        },
+        Verdict::NotMonomial => Four {
+            code: 10,
+            file: 0,
+            number: 0,
+            at: 0,
+        },
+        Verdict::BelowOrder(i, j) => Four {
+            code: 11,
+            file: 2,
+            number: i,
+            at: j,
+        },
+        Verdict::AtOrder(i, j) => Four {
+            code: 12,
+            file: 2,
+            number: i,
+            at: j,
+        },
+        Verdict::LowRank => Four {
+            code: 13,
+            file: 0,
+            number: 0,
+            at: 0,
+        },
+        Verdict::NoRoom(k) => Four {
+            code: 14,
+            file: 0,
+            number: 0,
+            at: k,
+        },
+        Verdict::Written(k) => Four {
+            code: 0,
+            file: 0,
+            number: 0,
+            at: k,
+        },
+    }
+}
+
+// code + 256 × file + 65,536 × record + 4,294,967,296 × at: no bit is lost.
+pub fn pack(v: Verdict) -> u64
+    ensures { λ r. ⌜ r ≡ packed (four-of-verdict v) ⌝ }
+{
+    let n = numbers(v);
+    n.code as u64 + 256 * (n.file as u64) + 65536 * (n.number as u64) + 4294967296 * (n.at as u64)
+}
