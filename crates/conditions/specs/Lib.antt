@@ -1,0 +1,4 @@
+pub mod Held
+pub mod Steps
+pub mod Answers
+pub mod Unique
