@@ -1,0 +1,22 @@
+use borrow.Author.Needs.{needs}
+use mathlib.Core.Path.{ap, _∙_}
+use Rattle.rules.specs.Verdict.{numbers, packed}
+use Rattle.verdict.specs.Meant.{four-of-verdict-is}
+use Rattle.board.proofs.judge.Statement.{statement}
+use Rattle.board.proofs.judge.Tie as tie
+use Rattle.board.proofs.judge_files.Reads as judge-files-reads
+use Rattle.verdict.proofs.pack.Reads as pack-reads
+
+judge-files-requires : tie.Need-judge-files-requires
+judge-files-requires c κs = search needs
+
+pack-requires : tie.Need-pack-requires
+pack-requires c κs = search needs
+
+returns : tie.Need-returns
+returns c =
+    let judged = c .before .judge-files in
+    c .pack .ensures ∙ ap packed (four-of-verdict-is (judged .result) ∙ ap numbers (judged .ensures))
+
+pub judge-spec : {M : Type 1} → statement M
+judge-spec = tie.close (tie.spec judge-files-requires pack-requires returns)

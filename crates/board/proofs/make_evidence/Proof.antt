@@ -1,0 +1,25 @@
+use borrow.Author.Needs.{needs}
+use mathlib.Core.Path.{ap, _∙_}
+use Rattle.rules.specs.Verdict.{numbers, packed}
+use Rattle.verdict.specs.Meant.{four-of-verdict-is}
+use Rattle.board.proofs.make_evidence.Statement.{statement}
+use Rattle.board.proofs.make_evidence.Tie as tie
+use Rattle.board.proofs.evidence_files.Reads as evidence-files-reads
+use Rattle.verdict.proofs.pack.Reads as pack-reads
+
+evidence-files-requires : tie.Need-evidence-files-requires
+evidence-files-requires c κs = search needs
+
+pack-requires : tie.Need-pack-requires
+pack-requires c κs = search needs
+
+same-length : tie.Need-same-length
+same-length c = search needs
+
+returns : tie.Need-returns
+returns c =
+    let made = c .before .before .before .evidence-files in
+    (c .pack .ensures ∙ ap packed (four-of-verdict-is (made .result) ∙ ap numbers (made .ensures .0)), made .ensures .1)
+
+pub make-evidence-spec : {M : Type 1} → statement M
+make-evidence-spec = tie.close (tie.spec evidence-files-requires pack-requires same-length returns)

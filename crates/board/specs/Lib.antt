@@ -1,0 +1,7 @@
+pub mod Parts
+pub mod PartSteps
+pub mod Filled
+pub mod Readings
+pub mod Judging
+pub mod EvidenceSteps
+pub mod Unique

@@ -1,0 +1,186 @@
+// Where the bytes lie that a verdict points at.
+ghost use mathlib.Core.Path.{_≡_};
+ghost use mathlib.Core.Bool.{cond};
+ghost use Prim.Native.Nat.{_+_, _-_, _*_, _≤_};
+ghost use lib.Dec.{eqb};
+ghost use lib.ListN.{length, getD};
+ghost use Rattle.rules.specs.Conditions.{sum-below};
+ghost use Rattle.rules.specs.Sizes.{most-rows};
+ghost use Rattle.rules.specs.Verdict.{verdict, numbers};
+ghost use Rattle.rules.specs.Part.{pointed-at};
+ghost use Rattle.matrix.specs.Faults.{Ordered};
+ghost use Rattle.verdict.specs.Meant.{meant};
+ghost use Rattle.board.specs.Parts.{PartIn, HasColumn, ColumnPart, part-of, start-of};
+use layout::ROWS;
+use reader::read_problem;
+use verdict::Verdict;
+
+// The part of `size` bytes from `start` on, of the problem (file 0) or of the answer.
+pub struct Piece {
+    pub file: u8,
+    pub start: usize,
+    pub size: usize,
+}
+
+// What of a verdict says where its bytes lie.
+pub struct Pointed {
+    pub code: u8,
+    pub file: u8,
+    pub at: u32,
+    pub start: u32,
+}
+
+// Where the bytes of a verdict lie.
+fn pointer(v: Verdict) -> Pointed
+    ensures { λ r. ⌜ (r .code ≡ numbers (meant v) .code) × ((r .file ≡ numbers (meant v) .file) × ((r .at ≡ numbers (meant v) .at) × (r .start ≡ start-of (meant v)))) ⌝ }
+{
+    match v {
+        Verdict::Passed(d) => Pointed {
+            code: 0,
+            file: 0,
+            at: d,
+            start: 0,
+        },
+        Verdict::Unread(r) => Pointed {
+            code: r.code,
+            file: r.file,
+            at: r.at,
+            start: r.start,
+        },
+        Verdict::NotReduced => Pointed {
+            code: 9,
+            file: 0,
+            at: 0,
+            start: 0,
+        },
+        Verdict::NotMonomial => Pointed {
+            code: 10,
+            file: 0,
+            at: 0,
+            start: 0,
+        },
+        Verdict::BelowOrder(_, j) => Pointed {
+            code: 11,
+            file: 2,
+            at: j,
+            start: 0,
+        },
+        Verdict::AtOrder(_, j) => Pointed {
+            code: 12,
+            file: 2,
+            at: j,
+            start: 0,
+        },
+        Verdict::LowRank => Pointed {
+            code: 13,
+            file: 0,
+            at: 0,
+            start: 0,
+        },
+        Verdict::NoRoom(k) => Pointed {
+            code: 14,
+            file: 0,
+            at: k,
+            start: 0,
+        },
+        Verdict::Written(k) => Pointed {
+            code: 0,
+            file: 0,
+            at: k,
+            start: 0,
+        },
+    }
+}
+
+// The first byte of the `FC` record of column `j`: `PR`, `OR`, `SH` and the columns before it stand before it.
+fn column_start(orders: [usize; ROWS], m: usize, n: usize, j: usize) -> usize
+    requires { ⌜ (m ≤ most-rows) × ((n ≤ most-rows) × (j ≤ most-rows)) ⌝ }
+    requires { ⌜ Ordered orders ⌝ }
+    ensures { λ r. ⌜ r ≡ 8 + (2 + n) + (2 + 2 * m) + sum-below j (λ k. 3 + 4 * m * getD orders k 0) ⌝ }
+{
+    let mut start = 8 + (2 + n) + (2 + 2 * m);
+    let mut k = 0;
+    while k < j {
+        start += 3 + 4 * m * orders[k];
+        k += 1;
+    }
+    start
+}
+
+// The part from `start` to the file's end.
+fn rest_of_file<'a>(problem: &'a [u8], answer: &'a [u8], file: u8, start: usize) -> Piece
+    requires { ⌜ start ≤ cond (eqb file 0) (length (now problem)) (length (now answer)) ⌝ }
+    ensures { λ r. ⌜ part-of r ≡ part-of (record { file = file; start = start; size = cond (eqb file 0) (length (now (problem .entry))) (length (now (answer .entry))) - start }) ⌝ }
+{
+    let end = if file == 0 {
+        problem.len()
+    } else {
+        answer.len()
+    };
+    Piece {
+        file,
+        start,
+        size: end - start,
+    }
+}
+
+// The `FC` record of column `j` in the problem.
+fn column_record(problem: &[u8], j: usize) -> Piece
+    requires { ⌜ HasColumn (now problem) j ⌝ }
+    ensures { λ r. ⌜ ColumnPart (now (problem .entry)) j (part-of r) ⌝ }
+{
+    let b = read_problem(problem);
+    let start = column_start(b.orders, b.m, b.n, j);
+    let size = 3 + 4 * b.m * b.orders[j];
+    Piece {
+        file: 0,
+        start,
+        size,
+    }
+}
+
+// The `CE` record in the answer.
+fn evidence_record<'a>(problem: &'a [u8], answer: &'a [u8]) -> Piece
+    requires { ⌜ numbers (verdict (now problem) (now answer)) .code ≡ 12 ⌝ }
+    ensures { λ r. ⌜ part-of r ≡ pointed-at (now (problem .entry)) (now (answer .entry)) ⌝ }
+{
+    let b = read_problem(problem);
+    let size = 2 + 4 * b.m * b.n;
+    Piece {
+        file: 1,
+        start: answer.len() - size,
+        size,
+    }
+}
+
+// The part that the verdict `v` on the two files points at.
+pub fn span<'a>(problem: &'a [u8], answer: &'a [u8], v: Verdict) -> Piece
+    requires { ⌜ meant v ≡ verdict (now problem) (now answer) ⌝ }
+    ensures { λ r. ⌜ part-of r ≡ pointed-at (now (problem .entry)) (now (answer .entry)) ⌝ }
+{
+    let x = pointer(v);
+    let code = x.code;
+    match code {
+        1..=8 => rest_of_file(problem, answer, x.file, x.start as usize),
+        11 => column_record(problem, x.at as usize),
+        12 => evidence_record(problem, answer),
+        _ => Piece {
+            file: 1,
+            start: 0,
+            size: 0,
+        },
+    }
+}
+
+// That part itself.
+pub fn cut<'a>(problem: &'a [u8], answer: &'a [u8], file: u8, start: usize, size: usize) -> &'a [u8]
+    requires { ⌜ start + size ≤ cond (eqb file 0) (length (now problem)) (length (now answer)) ⌝ }
+    ensures { λ r. ⌜ PartIn (problem .entry) (answer .entry) r (record { file = file; start = start; size = size }) ⌝ }
+{
+    let end = start + size;
+    if file == 0 {
+        &problem[start..end]
+    } else {
+        &answer[start..end]
+    }
+}

@@ -1,0 +1,82 @@
+/*
+ * A host for the board: judges two files, or makes the evidence for an answer that has none yet.
+ *
+ *     host PROBLEM ANSWER                 prints `pass D`, or `refuse CODE FILE RECORD AT`
+ *     host --evidence PROBLEM ANSWER      prints `evidence CODE FILE RECORD AT` and, where it was made, the record's bytes in hex
+ *
+ * A file that can't be opened gives `nofile 0` (the problem, tried first) or `nofile 1` (the answer). So does one that isn't named, and
+ * one that can't be read, such as a folder. The exit status is 0 after code 0, 1 after a refusal and 2 after `nofile`.
+ *
+ *     rt staticlib board
+ *     cc -std=c11 -Wall -Wextra -Wpedantic -Werror -Iinclude examples/host.c target/staticlib/libboard.a -o host
+ */
+#include "board.h"
+
+#include <inttypes.h>
+#include <stdbool.h>
+#include <stdio.h>
+#include <string.h>
+
+/* More than the longest file. A longer one is refused for the bytes that follow its last record, so the rest of it changes nothing. */
+enum { READ_MOST = 16384 };
+
+struct file {
+    uint8_t bytes[READ_MOST];
+    size_t length;
+};
+
+static bool read_file(const char *name, struct file *file)
+{
+    FILE *stream = name == NULL ? NULL : fopen(name, "rb");
+    if (stream == NULL)
+        return false;
+    file->length = fread(file->bytes, 1, sizeof file->bytes, stream);
+    bool good = ferror(stream) == 0;
+    fclose(stream);
+    return good;
+}
+
+static void print_numbers(const char *word, uint64_t verdict)
+{
+    printf("%s %u %u %u %" PRIu32, word, board_code(verdict), board_file(verdict), board_record(verdict), board_at(verdict));
+}
+
+static int print_verdict(const struct file *problem, const struct file *answer)
+{
+    uint64_t verdict = judge(problem->bytes, problem->length, answer->bytes, answer->length);
+    if (board_code(verdict) == BOARD_PASS) {
+        printf("pass %" PRIu32 "\n", board_at(verdict));
+        return 0;
+    }
+    print_numbers("refuse", verdict);
+    printf("\n");
+    return 1;
+}
+
+static int print_evidence(const struct file *problem, const struct file *answer)
+{
+    uint8_t record[BOARD_EVIDENCE_MOST];
+    uint64_t verdict = make_evidence(problem->bytes, problem->length, answer->bytes, answer->length, record, sizeof record);
+    bool made = board_code(verdict) == BOARD_PASS;
+    print_numbers("evidence", verdict);
+    for (uint32_t i = 0; made && i < board_at(verdict); i++)
+        printf(" %02x", record[i]);
+    printf("\n");
+    return made ? 0 : 1;
+}
+
+int main(int argc, char **argv)
+{
+    static struct file problem, answer;
+    bool evidence = argc > 1 && strcmp(argv[1], "--evidence") == 0;
+    int first = evidence ? 2 : 1;
+    if (!read_file(argc > first ? argv[first] : NULL, &problem)) {
+        printf("nofile 0\n");
+        return 2;
+    }
+    if (!read_file(argc > first + 1 ? argv[first + 1] : NULL, &answer)) {
+        printf("nofile 1\n");
+        return 2;
+    }
+    return evidence ? print_evidence(&problem, &answer) : print_verdict(&problem, &answer);
+}

@@ -1,0 +1,95 @@
+/*
+ * The acceptance board, for a host that is written in C or C++.
+ *
+ * Link with libboard.a. Every verdict is one 64-bit number that packs four:
+ *
+ *     code + 256 * file + 65536 * record + 4294967296 * at
+ *
+ * Take it apart with board_code, board_file, board_record and board_at. The code says what was found, the other three say where:
+ *
+ *     code        file                    record               at
+ *     0           0                       0                    judge: the degree sum; make_evidence: the bytes written
+ *     1 to 8      0 problem, 1 answer     record, from 0       offset of the field in that file, from 0
+ *     9, 10, 13   0                       0                    0
+ *     11, 12      2                       row, from 0          column, from 0
+ *     14          0                       0                    bytes needed
+ *
+ * In both functions:
+ * - the files are only read, and bytes outside the lengths given are neither read nor written;
+ * - a length may be 0, the pointer is never NULL;
+ * - nothing is kept between calls and no memory is asked for, so that calls from several threads do not meet.
+ *
+ * That the verdicts are those of the client's rules, for all files, is proved of the library's source.
+ */
+#ifndef BOARD_H
+#define BOARD_H
+
+#include <stddef.h>
+#include <stdint.h>
+
+#ifdef __cplusplus
+extern "C" {
+#endif
+
+/* What was found. The first that applies is given: 1 to 8 in reading order, then the others by number. */
+enum board_verdict {
+    BOARD_PASS = 0,         /* the answer is a reduced basis for the problem; or the evidence is made */
+    BOARD_CUT = 1,          /* a field runs past the end of its file */
+    BOARD_MARK = 2,         /* a record does not start with the mark that is due */
+    BOARD_SIZE = 3,         /* m, n, an order, a shift or a count of coefficients is outside its size */
+    BOARD_PRIME = 4,        /* p is not a prime from 2 to 2147483647 */
+    BOARD_NUMBER = 5,       /* a row or column number is not the one that is due */
+    BOARD_RANGE = 6,        /* a coefficient, or a number of the evidence, is p or more */
+    BOARD_LAST_ZERO = 7,    /* the last coefficient of an entry is 0 */
+    BOARD_SURPLUS = 8,      /* bytes after the last record */
+    BOARD_NOT_REDUCED = 9,  /* the answer's matrix P is not reduced for the shift */
+    BOARD_DETERMINANT = 10, /* the determinant of P is not a nonzero constant times a power of X */
+    BOARD_PRODUCT = 11,     /* P times F has a coefficient other than 0 below the order */
+    BOARD_EVIDENCE = 12,    /* the evidence C differs from the coefficient of P times F at the order */
+    BOARD_RANK = 13,        /* the rank of P(0) with C beside it is too low: P generates too little */
+    BOARD_BUFFER = 14       /* make_evidence only: the buffer is too short, `at` has the bytes needed */
+};
+
+/* The most bytes that make_evidence writes: a buffer of this length is never too short. */
+#define BOARD_EVIDENCE_MOST 66
+
+/* Judges an answer to a problem, both as whole files in memory, and returns the verdict. */
+uint64_t judge(const uint8_t *problem, size_t problem_len, const uint8_t *answer, size_t answer_len);
+
+/*
+ * Makes the record `CE` for an answer that ends after its last record `PE`. With code 0 the buffer starts with the record, `at` is its
+ * length, and every byte after it is as before. With any other code every byte of the buffer is as before. The answer is only read, not
+ * judged: codes 9 to 13 are never given. The buffer shares no byte with the two files.
+ */
+uint64_t make_evidence(const uint8_t *problem, size_t problem_len, const uint8_t *answer, size_t answer_len, uint8_t *buffer,
+                       size_t buffer_len);
+
+/* What was found: a number of `enum board_verdict`. */
+static inline unsigned board_code(uint64_t verdict)
+{
+    return (unsigned)(verdict & 0xFF);
+}
+
+/* Where: 0 the problem, 1 the answer, 2 the product of P and F. */
+static inline unsigned board_file(uint64_t verdict)
+{
+    return (unsigned)(verdict >> 8 & 0xFF);
+}
+
+/* Where: the record in the file, or the row in the product. */
+static inline unsigned board_record(uint64_t verdict)
+{
+    return (unsigned)(verdict >> 16 & 0xFFFF);
+}
+
+/* Where: the offset in the file, or the column in the product; or a degree sum, or a number of bytes (see above). */
+static inline uint32_t board_at(uint64_t verdict)
+{
+    return (uint32_t)(verdict >> 32);
+}
+
+#ifdef __cplusplus
+}
+#endif
+
+#endif
