@@ -1,0 +1,43 @@
+-- `cases::write_case` is safe and ends: the bytes lent are a part of the marked ones.
+use borrow.Author.Needs.{needs}
+use lib.ListN.{length-take}
+use native.Mathlib.Omega.{arith}
+use Rattle.cases.proofs.write_case.Statement.{statement}
+use Rattle.cases.proofs.write_case.Tie as tie
+
+write-verdict-requires : tie.Need-write-verdict-requires
+write-verdict-requires c κs = search needs
+
+pointed-at-requires : tie.Need-pointed-at-requires
+pointed-at-requires c κs = search needs
+
+write-part-requires : tie.Need-write-part-requires
+write-part-requires c κs = search needs
+
+marked-requires : tie.Need-marked-requires
+marked-requires c κs = search needs
+
+array-borrow-prefix-space : tie.Need-array-borrow-prefix-space
+array-borrow-prefix-space c = search needs
+
+slice-aggregate-write-evidence : tie.Need-slice-aggregate-write-evidence
+slice-aggregate-write-evidence c = simp length-take (omega arith)
+
+write-evidence-requires : tie.Need-write-evidence-requires
+write-evidence-requires c κs = search needs
+
+returns : tie.Need-returns
+returns c = search needs
+
+pub write-case-spec : {M : Type 1} → statement M
+write-case-spec =
+    tie.close
+    (tie.spec
+    write-verdict-requires
+    pointed-at-requires
+    write-part-requires
+    marked-requires
+    array-borrow-prefix-space
+    slice-aggregate-write-evidence
+    write-evidence-requires
+    returns)

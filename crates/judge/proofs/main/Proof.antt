@@ -1,0 +1,62 @@
+use borrow.Author.Needs.{needs}
+use native.Mathlib.Omega.{arith}
+use Rattle.judge.specs.Loads.{within-bytes, part-length}
+use Rattle.judge.proofs.main.Statement.{statement}
+use Rattle.judge.proofs.main.Tie as tie
+use Rattle.io.proofs.write_all.Reads as write-all-reads
+use Rattle.judge.proofs.load.Reads as load-reads
+use Rattle.judge.proofs.room.Reads as room-reads
+use Rattle.judge.proofs.with_problem.Reads as with-problem-reads
+
+room-requires : tie.Need-room-requires
+room-requires c κs = search needs
+
+slice-aggregate-load : tie.Need-slice-aggregate-load
+slice-aggregate-load c = search needs
+
+load-requires : tie.Need-load-requires
+load-requires c κs = search needs
+
+enum-told : tie.Need-enum-told
+enum-told c = search needs
+
+slice-aggregate-write-all : tie.Need-slice-aggregate-write-all
+slice-aggregate-write-all c = search needs
+
+write-all-requires : tie.Need-write-all-requires
+write-all-requires c κs = search needs
+
+enum-known-n : tie.Need-enum-known-n
+enum-known-n c = search needs
+
+array-share-prefix-problem : tie.Need-array-share-prefix-problem
+array-share-prefix-problem c = omega (arith, within-bytes _ (c .before .n .given .0 .0) (c .before .before .before .before .load .result) (c .before .before .before .before .load .ensures) (c .before .n .given .1), c .before .before .before .before .load .kept .1 .0)
+
+slice-aggregate-with-problem : tie.Need-slice-aggregate-with-problem
+slice-aggregate-with-problem c = part-length (c .before .before .n .given .0 .0) (c .before .before .before .before .before .load .last .1 .0) (omega (arith, within-bytes _ (c .before .before .n .given .0 .0) (c .before .before .before .before .before .load .result) (c .before .before .before .before .before .load .ensures) (c .before .before .n .given .1), c .before .before .before .before .before .load .kept .1 .0))
+
+with-problem-requires : tie.Need-with-problem-requires
+with-problem-requires c κs = search needs
+
+returns : tie.Need-returns
+returns c = search needs
+
+returns-2 : tie.Need-returns-2
+returns-2 c = search needs
+
+pub main-spec : {M : Type 1} → statement M
+main-spec =
+    tie.close
+    (tie.spec
+    room-requires
+    slice-aggregate-load
+    load-requires
+    enum-told
+    slice-aggregate-write-all
+    write-all-requires
+    enum-known-n
+    array-share-prefix-problem
+    slice-aggregate-with-problem
+    with-problem-requires
+    returns
+    returns-2)

@@ -1,0 +1,62 @@
+use borrow.Author.Needs.{needs}
+use native.Mathlib.Omega.{arith}
+use Rattle.judge.specs.Loads.{within-bytes, part-length}
+use Rattle.judge.proofs.with_problem.Statement.{statement}
+use Rattle.judge.proofs.with_problem.Tie as tie
+use Rattle.io.proofs.write_all.Reads as write-all-reads
+use Rattle.judge.proofs.judge.Reads as judge-reads
+use Rattle.judge.proofs.load.Reads as load-reads
+use Rattle.judge.proofs.room.Reads as room-reads
+
+room-requires : tie.Need-room-requires
+room-requires c κs = search needs
+
+slice-aggregate-load : tie.Need-slice-aggregate-load
+slice-aggregate-load c = search needs
+
+load-requires : tie.Need-load-requires
+load-requires c κs = search needs
+
+enum-told : tie.Need-enum-told
+enum-told c = search needs
+
+slice-aggregate-write-all : tie.Need-slice-aggregate-write-all
+slice-aggregate-write-all c = search needs
+
+write-all-requires : tie.Need-write-all-requires
+write-all-requires c κs = search needs
+
+enum-known-n : tie.Need-enum-known-n
+enum-known-n c = search needs
+
+array-share-prefix-answer : tie.Need-array-share-prefix-answer
+array-share-prefix-answer c = omega (arith, within-bytes _ (c .before .n .given .0 .0) (c .before .before .before .before .load .result) (c .before .before .before .before .load .ensures) (c .before .n .given .1), c .before .before .before .before .load .kept .1 .0)
+
+slice-aggregate-judge : tie.Need-slice-aggregate-judge
+slice-aggregate-judge c = part-length (c .before .before .n .given .0 .0) (c .before .before .before .before .before .load .last .1 .0) (omega (arith, within-bytes _ (c .before .before .n .given .0 .0) (c .before .before .before .before .before .load .result) (c .before .before .before .before .before .load .ensures) (c .before .before .n .given .1), c .before .before .before .before .before .load .kept .1 .0))
+
+judge-requires : tie.Need-judge-requires
+judge-requires c κs = search needs
+
+returns : tie.Need-returns
+returns c = search needs
+
+returns-2 : tie.Need-returns-2
+returns-2 c = search needs
+
+pub with-problem-spec : {M : Type 1} → statement M
+with-problem-spec =
+    tie.close
+    (tie.spec
+    room-requires
+    slice-aggregate-load
+    load-requires
+    enum-told
+    slice-aggregate-write-all
+    write-all-requires
+    enum-known-n
+    array-share-prefix-answer
+    slice-aggregate-judge
+    judge-requires
+    returns
+    returns-2)

@@ -1,0 +1,74 @@
+// judge PROBLEM ANSWER: judges two files and prints one line. What is printed is tested; everything else is in the libraries.
+ghost use mathlib.Core.Path.{_≡_};
+ghost use Prim.Native.Nat.{_≤_};
+ghost use lib.ListN.{length};
+ghost use Rattle.judge.specs.Loads.{Within};
+use libc::STDOUT_FILENO;
+
+// At most so many bytes of each file are read.
+const LIMIT: usize = 16384;
+
+// The first bytes of a file, or that it can't be opened or read.
+pub enum Loaded {
+    Bytes(usize),
+    Missing,
+}
+
+// Room for a file.
+fn room() -> [u8; LIMIT]
+    ensures { λ r. ⌜ 16384 ≡ length r ⌝ }
+{
+    [0; LIMIT]
+}
+
+// Reads the file that argument `i` names into `out`, as far as there is room.
+fn load(i: usize, out: &mut [u8]) -> Loaded
+    ensures { λ r. ⌜ Within (length (now (out .entry))) r ⌝ }
+{
+    let mut name = io::buffer();
+    let k = os::arg(i, &mut name);
+    if os::errno() != 0 {
+        return Loaded::Missing;
+    }
+    let fd = os::open_read(&name[..k]);
+    if fd < 0 {
+        return Loaded::Missing;
+    }
+    let first = libc::read(fd, out);
+    if first < 0 {
+        libc::close(fd);
+        return Loaded::Missing;
+    }
+    let n = io::count(first, out);
+    let more = io::read_full(fd, &mut out[n..]);
+    libc::close(fd);
+    Loaded::Bytes(n + more)
+}
+
+// Prints the verdict on the two files.
+fn judge(problem: &[u8], answer: &[u8]) {
+    let mut text = [0u8; line::ROOM];
+    let end = line::line(board::judge(problem, answer), &mut text);
+    io::write_all(STDOUT_FILENO, &text[..end]);
+}
+
+// Judges the answer that the second argument names.
+fn with_problem(problem: &[u8]) {
+    let mut answer = room();
+    match load(2, &mut answer) {
+        Loaded::Missing => {
+            io::write_all(STDOUT_FILENO, b"nofile 1\n");
+        }
+        Loaded::Bytes(n) => judge(problem, &answer[..n]),
+    }
+}
+
+fn main() {
+    let mut problem = room();
+    match load(1, &mut problem) {
+        Loaded::Missing => {
+            io::write_all(STDOUT_FILENO, b"nofile 0\n");
+        }
+        Loaded::Bytes(n) => with_problem(&problem[..n]),
+    }
+}
