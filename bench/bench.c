@@ -1,0 +1,266 @@
+/*
+ * Time of one call: the board against the plain C version and against FLINT, on the same claims in one process.
+ *
+ * First every judge is held to document 01's worked cases and to the others on every claim; a difference is printed and the exit status
+ * is 1. Then each round times each judge once, one after the other, so that a slow moment of the machine meets all of them; the times
+ * are medians over the rounds, and a ratio is the median of the rounds' ratios. Time is the process's own, so that waiting for
+ * a processor does not count.
+ */
+#define _POSIX_C_SOURCE 200809L
+#include "judges.h"
+#include "maker.h"
+#include "stack.h"
+#include "worked.h"
+#ifdef WITH_BOARD
+#include "board.h"
+#endif
+
+#include <inttypes.h>
+#include <stdio.h>
+#include <stdlib.h>
+#include <time.h>
+
+enum { ROUNDS = 11, MOST_JUDGES = 3, CODES = 15, SHOWN = 20 };
+
+typedef uint64_t judge_function(const uint8_t *, size_t, const uint8_t *, size_t);
+
+static const struct judge {
+    const char *name;
+    judge_function *call;
+} judges[] = {
+#ifdef WITH_BOARD
+    {"board", judge},
+#endif
+    {"plain", plain_judge},
+#ifdef WITH_FLINT
+    {"FLINT", flint_judge},
+#endif
+};
+
+enum { JUDGES = sizeof judges / sizeof *judges };
+
+static const struct bundle {
+    const char *name;
+    enum group group;
+    int claims;
+    int repeats; /* so that a timing lasts some tens of milliseconds */
+} bundles[] = {{"largest", LARGEST, 64, 8}, {"mixed", MIXED, 2000, 4}, {"small", SMALL, 500, 60}};
+
+enum { BUNDLES = sizeof bundles / sizeof *bundles };
+
+static long codes[CODES];
+static int differences;
+
+static uint64_t verdict(int judge, const struct files *f)
+{
+    return judges[judge].call(f->problem, f->problem_len, f->answer, f->answer_len);
+}
+
+static void print_verdict(const char *name, uint64_t v)
+{
+    printf("  %s %" PRIu64 " %" PRIu64 " %" PRIu64 " %" PRIu64 "\n", name, v & 0xFF, v >> 8 & 0xFF, v >> 16 & 0xFFFF, v >> 32);
+}
+
+static void compare(const char *bundle, int claim, const char *name, uint64_t due, int judge, uint64_t got)
+{
+    if (got == due)
+        return;
+    differences++;
+    if (differences > SHOWN)
+        return;
+    printf("DIFFERENCE: %s claim %d\n", bundle, claim);
+    print_verdict(name, due);
+    print_verdict(judges[judge].name, got);
+}
+
+static void compare_worked(void)
+{
+    for (int i = 0; i < worked_count; i++) {
+        struct files files;
+        write_files(&worked_cases[i].claim, &files);
+        for (int j = 0; j < JUDGES; j++)
+            compare("worked", i, worked_cases[i].name, worked_cases[i].verdict, j, verdict(j, &files));
+    }
+}
+
+static void compare_bundle(const struct bundle *bundle, const struct files *files)
+{
+    for (int i = 0; i < bundle->claims; i++) {
+        uint64_t first = verdict(0, &files[i]);
+        codes[(first & 0xFF) % CODES]++;
+        for (int j = 1; j < JUDGES; j++)
+            compare(bundle->name, i, judges[0].name, first, j, verdict(j, &files[i]));
+    }
+}
+
+static double microseconds(void)
+{
+    struct timespec now;
+    clock_gettime(CLOCK_PROCESS_CPUTIME_ID, &now);
+    return (double)now.tv_sec * 1e6 + (double)now.tv_nsec / 1e3;
+}
+
+static double time_once(const struct bundle *bundle, const struct files *files, int judge)
+{
+    double start = microseconds();
+    for (int r = 0; r < bundle->repeats; r++)
+        for (int i = 0; i < bundle->claims; i++)
+            verdict(judge, &files[i]);
+    return (microseconds() - start) / bundle->repeats / bundle->claims;
+}
+
+static int compare_doubles(const void *a, const void *b)
+{
+    double x = *(const double *)a, y = *(const double *)b;
+    return (x > y) - (x < y);
+}
+
+static double median(double *values)
+{
+    qsort(values, ROUNDS, sizeof *values, compare_doubles);
+    return values[ROUNDS / 2];
+}
+
+static void print_header(void)
+{
+    printf("%-8s %6s", "claims", "number");
+    for (int j = 0; j < JUDGES; j++)
+        printf("   %s us", judges[j].name);
+    for (int i = 0; i < JUDGES; i++)
+        for (int j = i + 1; j < JUDGES; j++)
+            printf("   %s/%s", judges[i].name, judges[j].name);
+    printf("\n");
+}
+
+static void print_times(const struct bundle *bundle, const struct files *files)
+{
+    double times[MOST_JUDGES][ROUNDS], sorted[ROUNDS];
+    for (int round = 0; round < ROUNDS; round++)
+        for (int j = 0; j < JUDGES; j++)
+            times[j][round] = time_once(bundle, files, j);
+    printf("%-8s %6d", bundle->name, bundle->claims);
+    for (int j = 0; j < JUDGES; j++) {
+        for (int round = 0; round < ROUNDS; round++)
+            sorted[round] = times[j][round];
+        printf("   %8.3f", median(sorted));
+    }
+    for (int i = 0; i < JUDGES; i++)
+        for (int j = i + 1; j < JUDGES; j++) {
+            for (int round = 0; round < ROUNDS; round++)
+                sorted[round] = times[i][round] / times[j][round];
+            printf("   %11.3f", median(sorted));
+        }
+    printf("\n");
+}
+
+#ifdef WITH_BOARD
+static const struct files *judged;
+
+static void judge_once(void)
+{
+    judge(judged->problem, judged->problem_len, judged->answer, judged->answer_len);
+}
+
+static void make_evidence_once(void)
+{
+    static uint8_t buffer[BOARD_EVIDENCE_MOST];
+    make_evidence(judged->problem, judged->problem_len, judged->answer, judged->answer_without, buffer, sizeof buffer);
+}
+
+static void print_stack(struct files *files[BUNDLES])
+{
+    size_t deepest_judge = 0, deepest_evidence = 0;
+    for (int b = 0; b < BUNDLES; b++)
+        for (int i = 0; i < 50; i++) {
+            judged = &files[b][i];
+            size_t depth = stack_depth(judge_once);
+            deepest_judge = depth > deepest_judge ? depth : deepest_judge;
+            depth = stack_depth(make_evidence_once);
+            deepest_evidence = depth > deepest_evidence ? depth : deepest_evidence;
+        }
+    printf("peak stack of one call: judge %zu bytes, make_evidence %zu bytes\n", deepest_judge, deepest_evidence);
+}
+
+/* Two files of the largest sizes, with the modulus given. */
+static void longest_files(uint32_t p, struct files *files)
+{
+    static struct claim claim;
+    claim.p = p;
+    claim.m = claim.n = MOST_ROWS;
+    for (int i = 0; i < MOST_ROWS; i++) {
+        claim.order[i] = MOST_ORDER;
+        for (int j = 0; j < MOST_ROWS; j++) {
+            claim.length[i][j] = MOST_LENGTH;
+            claim.entry[i][j][MOST_LENGTH - 1] = 1;
+        }
+    }
+    write_files(&claim, files);
+}
+
+/* The time of one reading: with no byte lent, making evidence reads both files and refuses. */
+static double reading_time(const uint8_t *problem, size_t problem_len, const struct files *files)
+{
+    enum { CALLS = 2000 };
+    double rounds[ROUNDS];
+    uint8_t none[1];
+    for (int round = 0; round < ROUNDS; round++) {
+        double start = microseconds();
+        for (int i = 0; i < CALLS; i++)
+            make_evidence(problem, problem_len, files->answer, files->answer_without, none, 0);
+        rounds[round] = (microseconds() - start) / CALLS;
+    }
+    return median(rounds);
+}
+
+/* The test of the largest prime is timed by a problem that ends after p. */
+static void print_reading(void)
+{
+    enum { UP_TO_P = 6 };
+    static struct files small, large;
+    longest_files(2, &small);
+    longest_files(2147483647, &large);
+    printf("reading the longest pair: %.3f us with p = 2; is_prime(2147483647): %.3f us\n",
+           reading_time(small.problem, small.problem_len, &small), reading_time(large.problem, UP_TO_P, &large));
+}
+#endif
+
+static struct files *make_bundle(const struct bundle *bundle)
+{
+    struct files *files = malloc((size_t)bundle->claims * sizeof *files);
+    if (files == NULL)
+        exit(2);
+    for (int i = 0; i < bundle->claims; i++)
+        make_files(bundle->group, (uint64_t)i, &files[i]);
+    return files;
+}
+
+static void print_codes(void)
+{
+    printf("verdicts by code:");
+    for (int code = 0; code < CODES; code++)
+        if (codes[code] > 0)
+            printf(" %d: %ld", code, codes[code]);
+    printf("\n");
+}
+
+int main(void)
+{
+    struct files *files[BUNDLES];
+    compare_worked();
+    for (int b = 0; b < BUNDLES; b++) {
+        files[b] = make_bundle(&bundles[b]);
+        compare_bundle(&bundles[b], files[b]);
+    }
+    print_codes();
+    printf("differences between %d judges: %d\n", (int)JUDGES, differences);
+    print_header();
+    for (int b = 0; b < BUNDLES; b++)
+        print_times(&bundles[b], files[b]);
+#ifdef WITH_BOARD
+    print_stack(files);
+    print_reading();
+#endif
+    for (int b = 0; b < BUNDLES; b++)
+        free(files[b]);
+    return differences == 0 ? 0 : 1;
+}

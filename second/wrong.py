@@ -1,0 +1,128 @@
+"""Wrong judges: the second program with one place changed each. Says for each in
+how many cases of a bundle its output differs from the right one; fails if some
+wrong judge differs in none. Run from the top of the project, after the build:
+
+    python3 second/wrong.py [SEED [COUNT [WORD ...]]]
+
+WORDs choose the wrong judges by name. Five to ten minutes for all of them.
+"""
+import os, shutil, subprocess, sys, tempfile
+
+SOURCE = os.path.join(os.path.dirname(os.path.abspath(__file__)), 'src')
+BUILD = ['rustc', '-C', 'opt-level=1', '--edition', '2021', '--crate-name', 'second', '-Awarnings']
+# the checks of the program against itself are left out of the wrong judges
+BASE = [('verdict.rs','    plain::compare(&problem, &answer.basis, &answer.evidence, code, at)?;\n','')]
+WRONG = [
+('no det',[('verdict.rs','count() != 1 {','count() != 1 && false {')]),
+('rank P0 alone',[('verdict.rs','            row.extend(&evidence[i]);','            if evidence.len()>9 {row.push(1);}')]),
+('no 12',[('verdict.rs','if r[i][j][problem.d[j]] != evidence[i][j] {','if false && r[i][j][problem.d[j]] != evidence[i][j] {')]),
+('11 one short',[('verdict.rs','r[i][j][..problem.d[j]].iter()','r[i][j][..problem.d[j]-1].iter()')]),
+('11 one far',[('verdict.rs','r[i][j][..problem.d[j]].iter()','r[i][j][..problem.d[j]+1].iter()')]),
+('column before row 11',[('verdict.rs','''    for i in 0..problem.m {
+        for j in 0..problem.n {
+            if r[i][j][..''','''    for j in 0..problem.n {
+        for i in 0..problem.m {
+            if r[i][j][..''')]),
+('column before row 12',[('verdict.rs','''    for i in 0..problem.m {
+        for j in 0..problem.n {
+            if r[i][j][problem''','''    for j in 0..problem.n {
+        for i in 0..problem.m {
+            if r[i][j][problem''')]),
+('12 with 11',[('verdict.rs','''                return Ok((11, 2, i as u32, j as u64));
+            }''','''                return Ok((11, 2, i as u32, j as u64));
+            }
+            if r[i][j][problem.d[j]] != evidence[i][j] { return Ok((12, 2, i as u32, j as u64)); }''')]),
+('zero entry no degree',[('verdict.rs','s + (e.len() as i64 - 1).max(0)','if e.is_empty() {-5000} else {s + (e.len() as i64 - 1)}'),('verdict.rs','if sum < 0 {','if sum < 0 { return Ok((9,0,0,0)); } if false {'),]),
+('zero entry degree -1',[('verdict.rs','s + (e.len() as i64 - 1).max(0)','s + (e.len() as i64 - 1)'),('verdict.rs','if sum < 0 {','if sum < 0 { return Ok((9,0,0,0)); } if false {'),]),
+('shift ignored',[('verdict.rs','s + (e.len() as i64 - 1).max(0)','0*s + (e.len() as i64 - 1).max(0)'),('verdict.rs','- problem.s.iter().sum::<i64>();','- 0*problem.s.iter().sum::<i64>();'),('verdict.rs','if top != poly::determinant_permutations(&leading(basis, &problem.s), p) {','if false {')]),
+('det capped 63',[('verdict.rs','let top = poly::coefficient(&det, sum as usize);','let top = if sum>63 {0} else {poly::coefficient(&det, sum as usize)};'),('verdict.rs','if top != poly::determinant_permutations','if false && top != poly::determinant_permutations')]),
+('10 before 9',[('verdict.rs','    if top == 0 {','    if det.iter().filter(|c| **c != 0).count() != 1 {return Ok((10, 0, 0, 0));}\n    if top == 0 {')]),
+('rank before product',[('verdict.rs','    let r = product(problem, basis);\n    for i','''    let rows: Vec<Vec<u64>> = (0..problem.m).map(|i| { let mut row: Vec<u64> = basis[i].iter().map(|e| poly::coefficient(e, 0)).collect(); row.extend(&evidence[i]); row }).collect();
+    if !full_rank_by_minors(&rows, p) { return Ok((13,0,0,0)); }
+    let r = product(problem, basis);\n    for i''')]),
+('rank without last column',[('verdict.rs','            row.extend(&evidence[i]);','            row.extend(&evidence[i][..evidence[i].len()-1]);')]),
+('shift unsigned',[('read.rs','if raw >= 32768 { raw as i64 - 65536 } else { raw as i64 }','raw as i64')]),
+('shift limit 999',[('read.rs','(-1000..=1000)','(-999..=1000)')]),
+('shift limit 1001',[('read.rs','(-1000..=1000)','(-1000..=1001)')]),
+('evidence writes before 14',[('verdict.rs','    if code == 0 {\n','    if lent.len() >= 2 && code != 0 { lent[0]=67; lent[1]=69; }\n    if code == 0 {\n')]),
+('evidence zeroes after',[('verdict.rs','        lent[..need].copy_from_slice(&record);','        lent.fill(0); lent[..need].copy_from_slice(&record);')]),
+('evidence at d-1',[('verdict.rs','entry[problem.d[j]] as u32','entry[problem.d[j]-1] as u32')]),
+('evidence 14 off by one',[('verdict.rs','if lent.len() < need','if lent.len() <= need')]),
+('evidence takes CE',[('verdict.rs','answer(answer_file, &problem, false)','answer(answer_file, &problem, true)')]),
+('part 11 in the answer',[('verdict.rs','            (0, a, b)','            (1, a.min(answer_file.len()), b.min(answer_file.len()))')]),
+('part 11 always column 0',[('verdict.rs','problem.columns[at as usize]','problem.columns[0]')]),
+('part from field',[('verdict.rs','part: (r.file as usize, r.start, size)','part: (r.file as usize, r.at, size)')]),
+('p up to 2^32',[('field.rs','n <= 2_147_483_647 && is_prime(n)','n<3_215_031_751 && is_prime(n)')]),
+('fermat',[('field.rs','n <= 2_147_483_647 && is_prime(n)','n <= 2_147_483_647 && n>1 && (n<4 || power(2,n-1,n)==1)')]),
+('division to 46336',[('field.rs','n <= 2_147_483_647 && is_prime(n)','n <= 2_147_483_647 && n>1 && (2..=46336).take_while(|q| q*q<=n).all(|q| n%q!=0)')]),
+('2^31-1 refused',[('field.rs','n <= 2_147_483_647 &&','n < 2_147_483_647 &&')]),
+('L 16',[('read.rs','r.between(0, 17)','r.between(0, 16)')]),
+('L 18',[('read.rs','r.between(0, 17)','r.between(0, 18)')]),
+('order 17',[('read.rs','r.between(1, 16)','r.between(1, 17)')]),
+('order 15',[('read.rs','r.between(1, 16)','r.between(1, 15)')]),
+('coefficient p',[('read.rs','if value >= p {','if value == p { return Ok((at,0)); } if value > p {')]),
+('no 7',[('read.rs','k + 1 == length && value == 0','k + 1 == length && value == 0 && false'),('read.rs','                basis[i][j].push(value);\n            }','                basis[i][j].push(value);\n            }\n            crate::poly::trim(&mut basis[i][j]);')]),
+('8 record',[('read.rs','            self.record = self.begun;\n            self.start','            self.record = self.begun-1;\n            self.start')]),
+('row and column number swapped',[('read.rs','r.number(i as u64)?;\n            r.number(j as u64)?;','r.number(j as u64)?;\n            r.number(i as u64)?;')]),
+('mark by bytes',[('read.rs','        let (at, value) = self.field(2)?;\n','        if self.bytes.len()-self.place==1 && self.bytes[self.place]!=mark.as_bytes()[0] {return self.refuse(2,self.place);}\n        let (at, value) = self.field(2)?;\n')]),
+('p tested after m',[('read.rs','''    if !crate::field::allowed(p) {
+        return r.refuse(4, at);
+    }
+    let m = r.between(1, 4)? as usize;''','''    let m = r.between(1, 4)? as usize;
+    if !crate::field::allowed(p) {
+        return r.refuse(4, at);
+    }''')]),
+('record whole before fields',[('read.rs','            let length = r.between(0, 17)?;','            let length = r.between(0, 17)?; if r.bytes.len()-r.place<4*length as usize {let n=r.place+(r.bytes.len()-r.place)/4*4; return r.refuse(1,n);}')]),
+('sum Delta without shifts',[('verdict.rs','Ok((0, 0, 0, sum as u64))','Ok((0, 0, 0, (sum + problem.s.iter().sum::<i64>()) as u64))')]),
+('cut at 16384',[('verdict.rs','    let v = judge(problem, answer)?;','    let problem=&problem[..problem.len().min(16384)]; let answer=&answer[..answer.len().min(16384)];\n    let v = judge(problem, answer)?;')]),
+]
+QUIET = ['top coefficient and leading determinant differ', 'the two ranks differ',
+         'the determinant has a power above the degree sum']
+
+
+def build(edits, place):
+    src = os.path.join(place, 'src')
+    shutil.rmtree(src, ignore_errors=True)
+    shutil.copytree(SOURCE, src)
+    for name, old, new in edits:
+        path = os.path.join(src, name)
+        text = open(path).read()
+        if old not in text:
+            sys.exit('edit does not apply: ' + old)
+        open(path, 'w').write(text.replace(old, new, 1))
+    if edits:
+        path = os.path.join(src, 'verdict.rs')
+        text = open(path).read()
+        for message in QUIET:
+            text = text.replace('return Err("%s".into());' % message, '{}')
+        open(path, 'w').write(text)
+    subprocess.run(BUILD + ['--out-dir', place, os.path.join(src, 'main.rs')], check=True)
+    return os.path.join(place, 'second')
+
+
+def said(program, bundle):
+    return subprocess.run([program, 'expect', bundle], capture_output=True, text=True).stdout.split('\n')[:-1]
+
+
+def main():
+    seed = sys.argv[1] if len(sys.argv) > 1 else '1'
+    count = sys.argv[2] if len(sys.argv) > 2 else '20000'
+    words = sys.argv[3:]
+    unseen = 0
+    with tempfile.TemporaryDirectory() as place:
+        bundle = os.path.join(place, 'bundle')
+        right = build([], place)
+        subprocess.run([right, 'make', '--seed', seed, '--count', count, '--out', bundle], check=True)
+        due = said(right, bundle)
+        for name, edits in WRONG:
+            if words and not any(w in name for w in words):
+                continue
+            got = said(build(BASE + edits, place), bundle)
+            differ = sum(due[k:k + 3] != got[k:k + 3] for k in range(0, len(due), 3))
+            unseen += differ == 0
+            print('%-32s %d cases differ' % (name, differ), flush=True)
+    print('%d wrong judges not seen' % unseen)
+    sys.exit(1 if unseen else 0)
+
+
+main()
