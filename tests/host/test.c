@@ -1,0 +1,163 @@
+/*
+ * The archive as a C host sees it: document 01's worked cases, its example on disk with every variant, and one variant for each code,
+ * the same that docs/OPERATOR.md shows. Each check prints a line only if it fails; the last line is the tally.
+ */
+#include "board.h"
+#include "files.h"
+#include "worked.h"
+
+#include <inttypes.h>
+#include <stdbool.h>
+#include <stdio.h>
+#include <stdlib.h>
+#include <string.h>
+
+enum { PROBLEM = 36, ANSWER = 58, WITHOUT_EVIDENCE = 48, MOST_CHANGES = 4, GUARD = 0xAA };
+
+static const uint8_t problem[PROBLEM] = {
+    0x50, 0x52, 0x07, 0x00, 0x00, 0x00, 0x02, 0x01, 0x4F, 0x52, 0x02, 0x53, 0x48, 0x00, 0x00, 0x00, 0x00, 0x46,
+    0x43, 0x00, 0x01, 0x00, 0x00, 0x00, 0x00, 0x00, 0x00, 0x00, 0x01, 0x00, 0x00, 0x00, 0x01, 0x00, 0x00, 0x00,
+};
+
+static const uint8_t answer[ANSWER] = {
+    0x50, 0x45, 0x00, 0x00, 0x02, 0x06, 0x00, 0x00, 0x00, 0x06, 0x00, 0x00, 0x00,             /* 6 + 6X */
+    0x50, 0x45, 0x00, 0x01, 0x01, 0x01, 0x00, 0x00, 0x00,                                     /* 1 */
+    0x50, 0x45, 0x01, 0x00, 0x02, 0x00, 0x00, 0x00, 0x00, 0x06, 0x00, 0x00, 0x00,             /* 6X */
+    0x50, 0x45, 0x01, 0x01, 0x02, 0x00, 0x00, 0x00, 0x00, 0x01, 0x00, 0x00, 0x00,             /* X */
+    0x43, 0x45, 0x00, 0x00, 0x00, 0x00, 0x01, 0x00, 0x00, 0x00,                               /* C = (0, 1) */
+};
+
+static int passed, failed;
+
+static void check(bool good, const char *name)
+{
+    if (good) {
+        passed++;
+        return;
+    }
+    failed++;
+    printf("FAILED: %s\n", name);
+}
+
+static void check_verdict(uint64_t got, unsigned code, unsigned file, unsigned record, uint32_t at, const char *name)
+{
+    bool good = board_code(got) == code && board_file(got) == file && board_record(got) == record && board_at(got) == at;
+    check(good, name);
+    if (!good)
+        printf("  due %u %u %u %" PRIu32 ", got %u %u %u %" PRIu32 "\n", code, file, record, at, board_code(got), board_file(got),
+               board_record(got), board_at(got));
+}
+
+/* The example with some bytes changed, and bytes taken from or added to the end of the answer. */
+struct variant {
+    const char *name;
+    struct {
+        int file, at;
+        uint8_t byte;
+    } change[MOST_CHANGES];
+    int changes, longer;
+    unsigned code, file, record;
+    uint32_t at;
+};
+
+static const struct variant variants[] = {
+    {.name = "the example", .at = 2},
+    {.name = "answer less its last byte", .longer = -1, .code = 1, .file = 1, .record = 4, .at = 54},
+    {.name = "answer cut before CE", .longer = -10, .code = 1, .file = 1, .record = 4, .at = 48},
+    {.name = "answer empty", .longer = -ANSWER, .code = 1, .file = 1},
+    {.name = "mark of CE", .changes = 1, .change = {{1, 48, 0}}, .code = 2, .file = 1, .record = 4, .at = 48},
+    {.name = "order 0", .changes = 1, .change = {{0, 10, 0}}, .code = 3, .record = 1, .at = 10},
+    {.name = "order 17", .changes = 1, .change = {{0, 10, 17}}, .code = 3, .record = 1, .at = 10},
+    {.name = "m = 5", .changes = 1, .change = {{0, 6, 5}}, .code = 3, .at = 6},
+    {.name = "n = 0", .changes = 1, .change = {{0, 7, 0}}, .code = 3, .at = 7},
+    {.name = "L = 18", .changes = 1, .change = {{1, 4, 18}}, .code = 3, .file = 1, .at = 4},
+    {.name = "shift 1,001", .changes = 2, .change = {{0, 15, 0xE9}, {0, 16, 0x03}}, .code = 3, .record = 2, .at = 15},
+    {.name = "shift -1,001", .changes = 2, .change = {{0, 13, 0x17}, {0, 14, 0xFC}}, .code = 3, .record = 2, .at = 13},
+    {.name = "p = 9", .changes = 1, .change = {{0, 2, 9}}, .code = 4, .at = 2},
+    {.name = "p = 1", .changes = 1, .change = {{0, 2, 1}}, .code = 4, .at = 2},
+    {.name = "column number", .changes = 1, .change = {{1, 16, 0}}, .code = 5, .file = 1, .record = 1, .at = 16},
+    {.name = "first coefficient 7", .changes = 1, .change = {{1, 5, 7}}, .code = 6, .file = 1, .at = 5},
+    {.name = "last coefficient 0", .changes = 1, .change = {{1, 9, 0}}, .code = 7, .file = 1, .at = 9},
+    {.name = "one byte more", .longer = 1, .code = 8, .file = 1, .record = 5, .at = 58},
+    {.name = "shifts 0, 2", .changes = 1, .change = {{0, 15, 2}}, .code = 9},
+    {.name = "1 + X for X", .changes = 1, .change = {{1, 40, 1}}, .code = 10},
+    {.name = "F row 0 is 2", .changes = 1, .change = {{0, 20, 2}}, .code = 11, .file = 2},
+    {.name = "C = (0, 0)", .changes = 1, .change = {{1, 54, 0}}, .code = 12, .file = 2, .record = 1},
+    {.name = "F = 0 and C = 0", .changes = 4, .change = {{0, 20, 0}, {0, 28, 0}, {0, 32, 0}, {1, 54, 0}}, .code = 13},
+};
+
+static void check_variants(void)
+{
+    for (size_t v = 0; v < sizeof variants / sizeof *variants; v++) {
+        const struct variant *variant = &variants[v];
+        uint8_t p[PROBLEM], a[ANSWER + 1] = {0};
+        memcpy(p, problem, PROBLEM);
+        memcpy(a, answer, ANSWER);
+        for (int i = 0; i < variant->changes; i++)
+            (variant->change[i].file == 0 ? p : a)[variant->change[i].at] = variant->change[i].byte;
+        uint64_t got = judge(p, PROBLEM, a, (size_t)(ANSWER + variant->longer));
+        check_verdict(got, variant->code, variant->file, variant->record, variant->at, variant->name);
+    }
+    check_verdict(judge(problem, 0, answer, ANSWER), 1, 0, 0, 0, "problem empty");
+    check_verdict(judge(problem, PROBLEM - 1, answer, 0), 1, 0, 3, 32, "problem before answer");
+}
+
+/* `length` bytes are lent, one more lies behind them. */
+static void check_evidence(size_t length, unsigned code, uint32_t at, const char *name)
+{
+    uint8_t buffer[ANSWER], due[ANSWER];
+    memset(buffer, GUARD, sizeof buffer);
+    memset(due, GUARD, sizeof due);
+    if (code == BOARD_PASS)
+        memcpy(due, answer + WITHOUT_EVIDENCE, ANSWER - WITHOUT_EVIDENCE);
+    check_verdict(make_evidence(problem, PROBLEM, answer, WITHOUT_EVIDENCE, buffer, length), code, 0, 0, at, name);
+    check(memcmp(buffer, due, sizeof buffer) == 0, name);
+}
+
+static void check_evidence_cases(void)
+{
+    uint8_t buffer[16], before[16];
+    check_evidence(10, BOARD_PASS, 10, "evidence in 10 bytes");
+    check_evidence(11, BOARD_PASS, 10, "evidence in 11 bytes");
+    check_evidence(9, BOARD_BUFFER, 10, "evidence in 9 bytes");
+    check_evidence(0, BOARD_BUFFER, 10, "evidence in no bytes");
+    memset(buffer, GUARD, sizeof buffer);
+    memset(before, GUARD, sizeof before);
+    check_verdict(make_evidence(problem, PROBLEM, answer, ANSWER, buffer, 16), 8, 1, 4, 48, "evidence for an answer that has it");
+    check_verdict(make_evidence(problem, PROBLEM, answer, 47, buffer, 16), 1, 1, 3, 44, "evidence for a cut answer");
+    check(memcmp(buffer, before, sizeof buffer) == 0, "refused evidence writes nothing");
+}
+
+static void check_worked(void)
+{
+    for (int i = 0; i < worked_count; i++) {
+        const struct worked *w = &worked_cases[i];
+        struct files f;
+        write_files(&w->claim, &f);
+        check_verdict(judge(f.problem, f.problem_len, f.answer, f.answer_len), board_code(w->verdict), board_file(w->verdict),
+                      board_record(w->verdict), board_at(w->verdict), w->name);
+    }
+}
+
+/* P = 1, F = 0, C = 0 passes with a degree sum of 0 for every good p, order and shift. */
+static void check_edge(uint32_t p, int order, int shift, const char *name)
+{
+    struct claim c = {.p = p, .m = 1, .n = 1, .order = {order}, .shift = {shift}, .length = {{1}}, .entry = {{{1}}}};
+    struct files f;
+    write_files(&c, &f);
+    check_verdict(judge(f.problem, f.problem_len, f.answer, f.answer_len), BOARD_PASS, 0, 0, 0, name);
+}
+
+int main(void)
+{
+    check_variants();
+    check_evidence_cases();
+    check_worked();
+    check_edge(2, 1, 0, "p = 2");
+    check_edge(2147483647, 1, 0, "p = 2,147,483,647");
+    check_edge(5, 16, 0, "order 16");
+    check_edge(5, 1, -1000, "shift -1,000");
+    check_edge(5, 1, 1000, "shift 1,000");
+    printf("%d passed, %d failed\n", passed, failed);
+    return failed == 0 ? EXIT_SUCCESS : EXIT_FAILURE;
+}
