@@ -2,15 +2,12 @@
 --   remainder-below          a remainder is below p
 --   red-of-add, red-of-sub, red-of-neg, red-of-mul    the residue of each result
 --   red-of-inverse, below-of-inverse    the residue of an inverse, which is below p
---   prime-of-test            what the test of primes says
 -- and what their proofs share:
 --   product-fits             a product of two numbers below 2 ^ 32 is below 2 ^ 64
 --   mod-once                 a remainder by one subtraction
 --   inverse-is               what inverts a modulo p is its inverse
---   test-of-other            the test of primes passes no other number
-use mathlib.Core.Path.{_≡_, refl, sym, ap, _∙_}
-use mathlib.Core.Logic.{_↔_, _≢_}
-use mathlib.Core.Bool.{Bool, true, false}
+use mathlib.Core.Path.{_≡_, sym, ap, _∙_}
+use mathlib.Core.Logic.{_≢_}
 use Prim.Native.Nat.{ℕ, _+_, _-_, _*_, _%_, _^_, _≤_, _<_}
 use native.Mathlib.Nat.{le-of-lt, lt-of-le-of-lt, mod-lt, mod-eq-of-lt, mod-eq-sub-mod, mul-le-mul}
 use native.Mathlib.Omega.{arith}
@@ -21,9 +18,7 @@ use Rattle.algebra.specs.Ring.{CommRing, zero-mul}
 use Rattle.algebra.specs.Prime.{Prime}
 use Rattle.algebra.specs.Residue.{K, red, red-mod, red-add, red-mul, red-neg, red-eq, inverse-unique, K-inverse, K-inverts, K-nontrivial}
 use Rattle.rules.specs.Inverse.{inverse}
-use Rattle.rules.specs.Files.{is-prime}
 use Rattle.rules.specs.InverseLaws.{red-inverse, inverse-below}
-use Rattle.rules.specs.FieldTests.{is-prime-iff}
 
 -- A product of two numbers of 32 bits fits 64 bits.
 pub product-fits : (a b : ℕ) → a < 2 ^ 32 → b < 2 ^ 32 → Fits w64 (a * b)
@@ -36,14 +31,6 @@ mod-once p x from below = mod-eq-sub-mod from ∙ mod-eq-of-lt below
 -- What is computed as a remainder is below p.
 pub remainder-below : (p x r : ℕ) → 0 < p → r ≡ x % p → r < p
 remainder-below p x r positive e = rw e (mod-lt x positive)
-
--- The test of primes passes no other number.
-pub test-of-other : (p : ℕ) → ¬ Prime p → is-prime p ≡ false
-test-of-other p other = go (is-prime p) (λ e. other (is-prime-iff p .0 e))
-  where
-    go : (b : Bool) → b ≢ true → b ≡ false
-    go true ne = absurd (ne refl)
-    go false ne = refl
 
 module _ (p : ℕ) where
   open CommRing (K p) using (𝟘, 𝟙, _⊕_, _⊗_, ⊖_)
@@ -84,7 +71,3 @@ module _ (p : ℕ) where
 
       same : red p c ≡ red p (inverse p a)
       same = inverse-unique (K p) (red p a) (red p c) (K-inverse p (red p a)) h (K-inverts p prime (red p a) not-zero) ∙ sym (red-inverse p prime a)
-
-  -- The test says whether p is prime.
-  pub prime-of-test : (r : Bool) → r ≡ is-prime p → (r ≡ true) ↔ Prime p
-  prime-of-test r e = rw e (is-prime-iff p)

@@ -1,9 +1,7 @@
 -- Each public function's contract leaves one result: two results that satisfy it are equal.
 use mathlib.Core.Path.{_≡_, sym, _∙_}
-use mathlib.Core.Bool.{Bool}
 use Prim.Native.Nat.{ℕ, _+_, _-_, _*_, _%_}
 use Rattle.rules.specs.Inverse.{inverse}
-use Rattle.rules.specs.Files.{is-prime}
 
 pub add-mod-unique : (a b p r s : ℕ) → r ≡ (a + b) % p → s ≡ (a + b) % p → r ≡ s
 add-mod-unique a b p r s hr hs = hr ∙ sym hs
@@ -19,6 +17,3 @@ mul-mod-unique a b p r s hr hs = hr ∙ sym hs
 
 pub inverse-mod-unique : (a p r s : ℕ) → r ≡ inverse p a → s ≡ inverse p a → r ≡ s
 inverse-mod-unique a p r s hr hs = hr ∙ sym hs
-
-pub is-prime-unique : (p : ℕ) (r s : Bool) → r ≡ is-prime p → s ≡ is-prime p → r ≡ s
-is-prime-unique p r s hr hs = hr ∙ sym hs

@@ -4,8 +4,6 @@ ghost use Prim.Native.Nat.{_+_, _-_, _*_, _%_, _<_};
 ghost use Rattle.algebra.specs.Prime.{Prime};
 ghost use Rattle.rules.specs.Inverse.{inverse};
 
-pub mod prime;
-
 // a and b: numbers below p.
 // Their sum modulo p.
 pub fn add_mod(a: u32, b: u32, p: u32) -> u32

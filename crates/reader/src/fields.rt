@@ -12,6 +12,7 @@ ghost use Rattle.reader.specs.Tests.{width-of, code-of, Width};
 use crate::place::Field;
 use crate::place::Place;
 use crate::place::Stop;
+use primality::is_prime;
 
 // The largest prime, and the largest shift.
 const PRIME: u32 = 2_147_483_647;
@@ -125,7 +126,7 @@ fn allowed_prime(v: u32) -> bool
     ensures { λ r. ⌜ r ≡ allowed-prime v ⌝ }
 {
     if v <= PRIME {
-        return field::prime::is_prime(v);
+        return is_prime(v);
     }
     false
 }

@@ -1,0 +1,4 @@
+pub mod Found
+pub mod Quotient
+pub mod Table
+pub mod Unique

@@ -1,0 +1,59 @@
+-- A table of numbers to divide by, in blocks of 64, each beside its inverse modulo 2^16.
+--   Table, Positive          a table; numbers other than 0
+--   table-positive           a table has no 0
+--   Clear                    no number of a part of the table divides p
+--   clear-empty, clear-more, clear-both    an empty part, a part with one number more, two neighbouring parts
+--   block-start, block-after what the first number of a block is, in the block and after it
+--   room                     a whole block is left where one starts
+use mathlib.Core.Path.{_≡_, ap}
+use mathlib.Core.Logic.{by-cases}
+use mathlib.Core.List.{List}
+use Prim.Native.Nat.{ℕ, _+_, _*_, _/_, _%_, _≤_, _<_, _∣_}
+use native.Mathlib.Decide.{ℕ-discrete, decLt}
+use native.Mathlib.Omega.{arith}
+use lib.ListN.{length, getD}
+use Rattle.divisors.specs.Found.{first}
+use Rattle.divisors.specs.Quotient.{positive}
+
+-- The numbers q rise; v has the inverse modulo 2^16 of each; there are whole blocks of 64.
+pub record Table (q v : List ℕ) : Type 0 where
+  pub beside : length v ≡ length q
+  pub blocks : length q % 64 ≡ 0
+  pub inverse : (i : ℕ) → i < length q → getD q i 0 * getD v i 0 % 65536 ≡ 1
+  pub rising : (i j : ℕ) → i ≤ j → j < length q → getD q i 0 ≤ getD q j 0
+
+-- No number is 0.
+pub record Positive (q : List ℕ) : Type 0 where
+  pub at : (i : ℕ) → i < length q → 0 < getD q i 0
+
+-- A table has no 0.
+pub table-positive : {q v : List ℕ} → Table q v → Positive q
+table-positive {q} {v} table = record { at = λ i h. positive (getD q i 0) (getD v i 0) (table .inverse i h) }
+
+-- No number at the places from a on and below e divides p.
+pub record Clear (q : List ℕ) (a e p : ℕ) : Type 0 where
+  pub none : (i : ℕ) → a ≤ i → i < e → ¬ (getD q i 0 ∣ p)
+
+-- An empty part.
+pub clear-empty : {q : List ℕ} {a p : ℕ} → Clear q a a p
+clear-empty = record { none = λ i lo hi. absurd (omega arith) }
+
+-- A part with one number more, which does not divide p.
+pub clear-more : {q : List ℕ} {a e f p : ℕ} → f ≡ e + 1 → ¬ (getD q e 0 ∣ p) → Clear q a e p → Clear q a f p
+clear-more {q} {a} {e} one not before = record { none = λ i lo hi h. by-cases (ℕ-discrete i e) (λ same. not (rw same at h)) (λ ne. before .none i lo (omega arith) h) }
+
+-- Two parts, the second from the first one's end on.
+pub clear-both : {q : List ℕ} {a b e p : ℕ} → Clear q a b p → Clear q b e p → Clear q a e p
+clear-both {b = b} before after = record { none = λ i lo hi. by-cases (decLt i b) (before .none i lo) (λ beyond. after .none i (omega arith) hi) }
+
+-- The first number of a block, at each place of the block …
+pub block-start : (q : List ℕ) (a i : ℕ) → a % 64 ≡ 0 → a ≤ i → i < a + 64 → getD q a 0 ≡ first q i
+block-start q a i start lo hi = ap (λ k. getD q k 0) (omega arith)
+
+-- … and from the block on.
+pub block-after : {q v : List ℕ} → Table q v → (a i : ℕ) → a % 64 ≡ 0 → a ≤ i → i < length q → getD q a 0 ≤ first q i
+block-after table a i start lo hi = table .rising a (i / 64 * 64) (omega arith) (omega arith)
+
+-- Where a block starts before the end of whole blocks, it is whole.
+pub room : {a n : ℕ} → a % 64 ≡ 0 → n % 64 ≡ 0 → a < n → a + 64 ≤ n
+room start whole before = omega arith

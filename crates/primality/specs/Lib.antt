@@ -1,0 +1,4 @@
+pub mod Laws
+pub mod Listed
+pub mod Sifted
+pub mod Unique
