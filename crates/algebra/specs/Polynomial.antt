@@ -2,7 +2,7 @@
 -- kept beside a series and is not a part of it: two polynomials are the same when their series are.
 --   Below d f                every coefficient of f from d on is 0
 --   Poly R                   a series with such a bound
---   poly-zero, poly-one, poly-constant, poly-X, poly-add, poly-mul, poly-neg, poly-shift, poly-list
+--   poly-zero, poly-one, poly-constant, poly-add, poly-mul, poly-neg, poly-list
 --   mul-leading              the highest coefficient of a product
 --   Series-cancels           series over a ring without zero divisors have none
 --   degree, Poly-decides     the degree of a polynomial, and whether it is 0
@@ -17,7 +17,7 @@ use native.Mathlib.Omega.{arith}
 use lib.ListN.{length, getD, List·getD-eq-default}
 use Rattle.algebra.specs.Ring as Ring
 use Rattle.algebra.specs.Ring.{CommRing, RingRelation, Decides, Cancels}
-use Rattle.algebra.specs.Series.{Series, series-ext, convolve-vanishes, convolve-single, constant, X, shift}
+use Rattle.algebra.specs.Series.{Series, series-ext, convolve-vanishes, convolve-single, constant, X}
 
 -- What holds of a number whenever it holds of all smaller ones holds of every number.
 strong-induction : (P : ℕ → Type 0) → ((n : ℕ) → ((m : ℕ) → m < n → P m) → P n) → (n : ℕ) → P n
@@ -103,13 +103,6 @@ module _ (R : CommRing) where
   pub mul-leading : {d e : ℕ} (f g : ℕ → C) → Below (suc d) f → Below (suc e) g → (f ⊠ g) (d + e) ≡ f d ⊗ g e
   mul-leading {d} {e} f g hf hg = convolve-single R f g d e (d + e) refl (λ i j p ne. below-term f g hf hg i j (λ lt. omega arith))
 
-  -- The product with X^d raises a bound by d.
-  pub below-shift : {e : ℕ} (d : ℕ) (f : ℕ → C) → Below e f → Below (d + e) (shift R d f)
-  unfolding shift
-  below-shift {e} zero f h k b = h k (omega arith)
-  below-shift (suc d) f h zero b = refl
-  below-shift {e} (suc d) f h (suc k) b = below-shift d f h k (omega arith)
-
   -- A series of degree 0 is its constant coefficient.
   pub constant-of-below : (f : ℕ → C) → Below 1 f → f ≡ constant R (f zero)
   unfolding constant
@@ -156,10 +149,6 @@ module _ (R : CommRing) where
   abbrev pub poly-one : Poly R
   poly-one = poly-constant 𝟙
 
-  -- The polynomial X.
-  abbrev pub poly-X : Poly R
-  poly-X = record { series = X R; bound = 2; below = below-X R }
-
   -- The sum.
   abbrev pub poly-add : Poly R → Poly R → Poly R
   poly-add f g = record {
@@ -177,10 +166,6 @@ module _ (R : CommRing) where
   -- The product.
   abbrev pub poly-mul : Poly R → Poly R → Poly R
   poly-mul f g = record { series = f .series ⊠ g .series; bound = f .bound + g .bound; below = below-mul R (f .series) (g .series) (f .below) (g .below) }
-
-  -- X^d · f.
-  abbrev pub poly-shift : ℕ → Poly R → Poly R
-  poly-shift d f = record { series = shift R d (f .series); bound = d + f .bound; below = below-shift R d (f .series) (f .below) }
 
   -- The polynomial whose coefficients a list gives.
   abbrev pub poly-list : List C → Poly R

@@ -105,10 +105,6 @@ module _ (R : CommRing) where
       let (e, b, p) = evaluation R a .rel-mul (evaluates-lin a) (d, h, refl) in
       (e, b, p ∙ Ring.zero-mul R (ev R d a q))
 
-  -- The polynomial X − a.
-  abbrev pub poly-lin : C → Poly R
-  poly-lin a = record { series = lin a; bound = 2; below = below-lin a }
-
   -- The quotient by X − a of a polynomial.
   abbrev pub poly-quo : C → Poly R → Poly R
   poly-quo a f = record { series = quo (f .bound) a (f .series); bound = pred (f .bound); below = below-quo (f .bound) a (f .series) (f .below) }

@@ -1,7 +1,7 @@
 -- What each turn of elimination's loops leaves, from what the turn before left.
 --   row-less-start, row-less-more          a column of a row
 --   cleared-start, cleared-more            a row of the matrix
---   exchanged-below, stepped               a step
+--   exchanged-below, stepped, stepped-last a step
 --   left-start, left-passed, left-stepped, left-settles      a column of the matrix, and the end
 --   settles-det                            from dependence to determinants
 use mathlib.Core.Path.{_≡_, refl, sym, ap, ap₂, subst, fun-ext, _∙_}
@@ -19,7 +19,7 @@ use lib.Seq.{getD-set-same, getD-set-other}
 use Rattle.algebra.specs.Ring.{CommRing}
 use Rattle.algebra.specs.Prime.{Prime}
 use Rattle.algebra.specs.Residue.{K, red, red-zero-iff, K-decides, K-nontrivial, K-inverse, K-inverts, K-cancels}
-use Rattle.algebra.specs.Sum.{swap, swap-left, exchange}
+use Rattle.algebra.specs.Sum.{swap, swap-left, swap-cases, exchange}
 use Rattle.algebra.specs.Det.{det}
 use Rattle.algebra.specs.Dependence.{Dependent}
 use Rattle.algebra.specs.Elimination.{dependent-iff-det-zero}
@@ -113,6 +113,16 @@ module _ (p : ℕ) where
       inverts =
           ap₂ (λ x y. x ⊗ y) entry (red-of-inverse p prime (at a k c) v ev)
           ∙ K-inverts p prime (red p (at a k c)) (λ z. nonzero (sym (mod-eq-of-lt small) ∙ red-zero-iff p (le-of-lt (prime .two-le)) (at a k c) .0 z))
+
+  -- The last row's step has nothing to exchange and nothing to clear.
+  pub stepped-last : Prime p → (a : List (List ℕ)) (r c k m n : ℕ) → r ≤ k → k < m → r + 1 ≡ m → c < n → at a k c ≢ 0 → at a k c < p → Below p a → Stepped p a r c m n a
+  stepped-last prime a r c k m n low high last hc nonzero small below =
+      stepped prime a r c k m n (inverse p (at a k c)) a a low high hc nonzero small refl
+      (swap-cases r k (λ i j. getD a i [] ≡ getD a j []) (ap row (omega arith)) (ap row (omega arith)) (λ i ni nk. refl))
+      (record { below = below; kept = refl; rows = λ i hi hr. absurd (omega arith); stay = λ i h. refl })
+    where
+      row : ℕ → List ℕ
+      row i = getD a i []
 
   -- At first all of a is left …
   pub left-start : (a : List (List ℕ)) (m n : ℕ) → Below p a → Left p a m n 0 0 a

@@ -89,7 +89,8 @@ fn clear_below(a: Grid, p: u32, v: u32, r: usize, c: usize, m: usize, n: usize) 
 }
 
 // a: the matrix, of numbers below p. r, c: the row and the column that the step is at. k: a row from r on, not 0 in column c.
-// The matrix with row k in the place of row r, and column c cleared below it.
+// The matrix with row k in the place of row r, and column c cleared below it. The last row has none below it: the matrix stays, and no
+// inverse is asked for.
 fn step(a: Grid, p: u32, r: usize, c: usize, k: usize, m: usize, n: usize) -> Grid
     requires { ⌜ Prime p ⌝ }
     requires { ⌜ Below p a ⌝ }
@@ -101,6 +102,9 @@ fn step(a: Grid, p: u32, r: usize, c: usize, k: usize, m: usize, n: usize) -> Gr
     requires { ⌜ at a k c ≢ 0 ⌝ }
     ensures { λ b. ⌜ Stepped p a r c m n b ⌝ }
 {
+    if r + 1 == m {
+        return a;
+    }
     let v = field::inverse_mod(a[k][c], p);
     let b = swap_rows(a, r, k);
     clear_below(b, p, v, r, c, m, n)

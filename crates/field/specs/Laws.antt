@@ -1,7 +1,7 @@
 -- The operations modulo p, as the functions of this crate compute them on numbers, carried to the residues.
 --   remainder-below          a remainder is below p
 --   red-of-add, red-of-sub, red-of-neg, red-of-mul    the residue of each result
---   red-of-inverse, below-of-inverse    the residue of an inverse, which is below p
+--   red-of-inverse           the residue of an inverse
 -- and what their proofs share:
 --   product-fits             a product of two numbers below 2 ^ 32 is below 2 ^ 64
 --   mod-once                 a remainder by one subtraction
@@ -57,10 +57,6 @@ module _ (p : ℕ) where
   -- … and an inverse that of the inverse.
   pub red-of-inverse : Prime p → (a r : ℕ) → r ≡ inverse p a → red p r ≡ K-inverse p (red p a)
   red-of-inverse prime a r e = ap (red p) e ∙ red-inverse p prime a
-
-  -- An inverse is below p.
-  pub below-of-inverse : Prime p → (a r : ℕ) → r ≡ inverse p a → r < p
-  below-of-inverse prime a r e = rw e (inverse-below p prime a)
 
   -- The number below p whose residue inverts that of a is the inverse of a.
   pub inverse-is : Prime p → (a c : ℕ) → c < p → red p a ⊗ red p c ≡ 𝟙 → c ≡ inverse p a

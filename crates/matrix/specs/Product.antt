@@ -6,15 +6,14 @@
 --   Factors p a lengths f    what the modulus and the two factors are
 --   pair-dot                 which of the products count
 --   product-residue          the residue of the sum of products is the coefficient
-use mathlib.Core.Path.{_≡_, sym, ap, ap₂, subst, _∙_}
+use mathlib.Core.Path.{_≡_, sym, ap, ap₂, _∙_}
 use mathlib.Core.List.{List}
 use Prim.Native.Nat.{ℕ, suc, _+_, _-_, _*_, _^_, _≤_, _<_, min}
 use native.Mathlib.Nat.{add-assoc, mul-zero, zero-mul}
 use native.Mathlib.Omega.{arith}
 use lib.IntN.{pos}
 use lib.ListN.{getD}
-use Rattle.algebra.specs.Ring.{CommRing}
-use Rattle.algebra.specs.Residue.{K, Residue, red, red-mul, red-onto, residue-below}
+use Rattle.algebra.specs.Residue.{K, Residue, red, red-mul}
 use Rattle.algebra.specs.Sum.{sum-cong}
 use Rattle.algebra.specs.Series.{Series, convolve, convolve-sum}
 use Rattle.algebra.specs.Degree.{coefficient, coefficient-sum}
@@ -153,10 +152,3 @@ product-residue p a f m i j k =
         ∙ sum-cong (K p) (suc k) (λ t. red p (cell a i l t * column-cell f l j (k - t)))
         (λ t. K p ._⊗_ (cells p a i l t) (column-cells p f l j (k - t))) (λ t b. red-mul p (cell a i l t) (column-cell f l j (k - t)))
         ∙ sym (convolve-sum (K p) (cells p a i l) (column-cells p f l j) k)
-
--- A number that is that of the coefficient is below p, and its residue is the coefficient of the product of the polynomial matrices.
-pub coefficient-number : (p : ℕ) (a f : List ℕ) (m i j k r : ℕ) → 0 < p → r ≡ flat-product p a f m i j k .0
-    → (r < p) × (red p r ≡ mmul (Series (K p)) m (cells p a) (column-cells p f) i j k)
-unfolding flat-product
-coefficient-number p a f m i j k r h e =
-    (subst (λ x. x < p) (sym e) (residue-below p h (flat-product p a f m i j k)), ap (red p) e ∙ red-onto p (flat-product p a f m i j k))

@@ -1,6 +1,4 @@
-pub mod Places
-pub mod Tests
-pub mod Fields
+pub mod Head
 pub mod Storing
 pub mod Flat
 pub mod Shifts

@@ -15,13 +15,13 @@ use native.Mathlib.Omega.{arith}
 use lib.Dec.{eqb}
 use lib.ListN.{length}
 use Rattle.rules.specs.Reader.{Place, Refusal, Result, refused, got, Reader, next, each, end}
-use Rattle.reader.specs.declared.place.Place.{Place as Spot}
-use Rattle.reader.specs.declared.place.Stop.{Stop}
-use Rattle.reader.specs.declared.place.Field.{Field}
-use Rattle.reader.specs.declared.place.Field.the-variants.{Value, Off as Field-Off}
-use Rattle.reader.specs.declared.place.Going.{Going}
-use Rattle.reader.specs.declared.place.Going.the-variants.{On, Off}
-use Rattle.reader.specs.Places.{place, refusal, taken, going, finish-of, opened-at}
+use Rattle.cursor.specs.declared.place.Place.{Place as Spot}
+use Rattle.cursor.specs.declared.place.Stop.{Stop}
+use Rattle.cursor.specs.declared.place.Field.{Field}
+use Rattle.cursor.specs.declared.place.Field.the-variants.{Value, Off as Field-Off}
+use Rattle.cursor.specs.declared.place.Going.{Going}
+use Rattle.cursor.specs.declared.place.Going.the-variants.{On, Off}
+use Rattle.cursor.specs.Places.{place, refusal, taken, going, finish-of, opened-at}
 
 unfoldable pub into : {A B : Type 0} → (A → B) → Result A → Result B
 into g (refused r) = refused r

@@ -1,7 +1,9 @@
 -- What the rules read, as the code's structs.
 --   problem-value            a problem that was read or refused, as the code's `Problem`
---   answer-of                the answer to a problem with p, m and n, with its `CE` record or without: answer-of-claim, answer-of-basis
+--   begun-off, begun-on, with-arrays         a problem without its arrays, and with them
+--   answer-of                the answer to a problem with p, m and n, with its `CE` record or without
 --   answer-value             an answer that was read or refused, as the code's `Answer`
+--   with-entries             an answer without its arrays, and with them
 --   body-reader, answer-parts        the problem after its `PR` record, and the answer, in parts: head-refused, head-given, answer-given
 --   answer-of-refused        a refusal's offsets fit 32 bits
 use mathlib.Core.Path.{_≡_, refl, sym, _∙_}
@@ -18,6 +20,8 @@ use Rattle.rules.specs.ReaderLaws.{next-cong}
 use Rattle.verdict.specs.declared.Refusal.{Refusal as Refused}
 use Rattle.reader.specs.declared.Problem.{Problem as ReadProblem}
 use Rattle.reader.specs.declared.Answer.{Answer as ReadAnswer}
+use Rattle.reader.specs.declared.Begun.{Begun}
+use Rattle.reader.specs.declared.Ended.{Ended}
 use Rattle.reader.specs.Flat.{filled, list-into, shifts-into, columns-into, entries-into, evidence-into, cells, coefficients, entry-cells}
 use Rattle.reader.specs.Records.{then-refused, then-given}
 use Rattle.reader.specs.Storing.{into, into-end, into-refused}
@@ -71,6 +75,16 @@ problem-value (got b q) =
       f = columns-into (filled coefficients 0) (b .F);
     }
 
+-- A problem without its arrays, refused or read, and with them.
+abbrev pub begun-off : Refusal → Begun
+begun-off x = record { ok = false; refusal = refusal-value x; p = 0; m = 0; n = 0 }
+
+abbrev pub begun-on : (p m n : ℕ) → Begun
+begun-on p m n = record { ok = true; refusal = no-refusal; p = p; m = m; n = n }
+
+abbrev pub with-arrays : Begun → List ℕ → List ℤ → List ℕ → ReadProblem
+with-arrays b orders shifts f = record { ok = b .ok; refusal = b .refusal; p = b .p; m = b .m; n = b .n; orders = orders; shifts = shifts; f = f }
+
 -- Of a problem the answer's readers use p, m and n alone.
 abbrev pub only : (p m n : ℕ) → Problem
 only p m n = record { p = p; m = m; n = n; orders = []; shifts = []; F = [] }
@@ -84,15 +98,6 @@ unfoldable pub answer-of : (p m n : ℕ) → Bool → List ℕ → Result Answer
 answer-of p m n true t = answer-reader (only p m n) t (front 1)
 answer-of p m n false t = into without-evidence (basis-reader (only p m n) t (front 1))
 
--- It is the answer to any problem with them.
-pub answer-of-claim : (b : Problem) (t : List ℕ) → answer-of (b .p) (b .m) (b .n) true t ≡ answer-reader b t (front 1)
-unfolding answer-of answer-reader
-answer-of-claim b t = refl
-
-pub answer-of-basis : (b : Problem) (t : List ℕ) → answer-of (b .p) (b .m) (b .n) false t ≡ into without-evidence (basis-reader b t (front 1))
-unfolding answer-of basis-reader
-answer-of-basis b t = refl
-
 -- The code's answer: what was read, or the refusal; every other number is 0.
 unfoldable pub answer-value : Result Answer → ReadAnswer
 answer-value (refused x) = record { ok = false; refusal = refusal-value x; lengths = filled cells 0; entries = filled entry-cells 0; c = filled cells 0 }
@@ -104,6 +109,10 @@ answer-value (got a q) =
       entries = entries-into (filled cells 0, filled entry-cells 0) (a .P) .1;
       c = evidence-into (filled cells 0) (a .C);
     }
+
+-- An answer without its arrays, and with them.
+abbrev pub with-entries : Ended → (lengths entries c : List ℕ) → ReadAnswer
+with-entries a lengths entries c = record { ok = a .ok; refusal = a .refusal; lengths = lengths; entries = entries; c = c }
 
 into-next : {A B C : Type 0} (g : B → C) (m : Result A) (f : A → Place → Result B) → into g (next m f) ≡ next m (λ a q. into g (f a q))
 unfolding into next

@@ -5,21 +5,21 @@ ghost use lib.ListN.{length};
 ghost use Rattle.rules.specs.Sizes.{most-rows};
 ghost use Rattle.rules.specs.Reader.{each};
 ghost use Rattle.rules.specs.Files.{PE, CE, entries-reader};
-ghost use Rattle.reader.specs.Places.{place, going, taken};
+ghost use Rattle.cursor.specs.Places.{place, going, taken};
 ghost use Rattle.reader.specs.Storing.{into};
 ghost use Rattle.reader.specs.Flat.{put-entry, row-into, entries-into, evidence-into, cells, entry-cells, answer-into};
 ghost use Rattle.reader.specs.Records.{count-reader};
 ghost use Rattle.reader.specs.Values.{answer-parts};
-use crate::fields::Test;
-use crate::fields::read;
-use crate::place::Field;
-use crate::place::Going;
-use crate::place::Place;
-use crate::place::closed;
-use crate::place::finish;
-use crate::place::opened;
 use crate::runs::block;
 use crate::runs::run;
+use cursor::fields::Test;
+use cursor::fields::read;
+use cursor::place::Field;
+use cursor::place::Going;
+use cursor::place::Place;
+use cursor::place::closed;
+use cursor::place::finish;
+use cursor::place::opened;
 use layout::LENGTH;
 use layout::ROWS;
 
@@ -43,11 +43,11 @@ fn entry_count(s: &[u8], q: Place, i: usize, j: usize) -> Field
     requires { ⌜ (i < most-rows) × (j < most-rows) ⌝ }
     ensures { λ r. ⌜ taken r ≡ count-reader i j (now (s .entry)) (place q) ⌝ }
 {
-    match read(s, q, Test::Due(i as u32)) {
+    match read(s, q, Test::Due, i as u32, 0) {
         Field::Off(x) => Field::Off(x),
-        Field::Value(_, q1) => match read(s, q1, Test::Due(j as u32)) {
+        Field::Value(_, q1) => match read(s, q1, Test::Due, j as u32, 0) {
             Field::Off(x) => Field::Off(x),
-            Field::Value(_, q2) => read(s, q2, Test::Size(0, LENGTH as u32)),
+            Field::Value(_, q2) => read(s, q2, Test::Size, 0, LENGTH as u32),
         },
     }
 }
@@ -66,7 +66,7 @@ fn read_entry(
     requires { ⌜ (q .number < 65535) × (i < most-rows) × (j < most-rows) × (length (now lengths) ≡ cells) × (length (now entries) ≡ entry-cells) ⌝ }
     ensures { λ r. ⌜ going r (now (lengths .exit), now (entries .exit)) ≡ into (put-entry i (now (lengths .entry), now (entries .entry)) j) (PE p i j (now (s .entry)) (place q)) ⌝ }
 {
-    match read(s, opened(q), Test::Mark(PE)) {
+    match read(s, opened(q), Test::Mark, PE, 0) {
         Field::Off(x) => Going::Off(x),
         Field::Value(_, q1) => match entry_count(s, q1, i, j) {
             Field::Off(x) => Going::Off(x),
@@ -141,7 +141,7 @@ pub fn read_evidence(s: &[u8], q: Place, p: u32, m: usize, n: usize, out: &mut [
     requires { ⌜ (q .number < 65535) × (m ≤ most-rows) × (n ≤ most-rows) × (length (now out) ≡ cells) ⌝ }
     ensures { λ r. ⌜ going r (now (out .exit)) ≡ into (evidence-into (now (out .entry))) (CE p m n (now (s .entry)) (place q)) ⌝ }
 {
-    match read(s, opened(q), Test::Mark(CE)) {
+    match read(s, opened(q), Test::Mark, CE, 0) {
         Field::Off(x) => Going::Off(x),
         Field::Value(_, q1) => closed(block(s, q1, p, m, n, out, 0, ROWS)),
     }

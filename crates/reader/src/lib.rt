@@ -5,25 +5,24 @@ ghost use lib.IntN.{pos};
 ghost use Rattle.rules.specs.Sizes.{most-rows};
 ghost use Rattle.rules.specs.Reader.{refused};
 ghost use Rattle.rules.specs.Files.{read-problem};
-ghost use Rattle.reader.specs.Places.{refusal};
+ghost use Rattle.cursor.specs.Places.{refusal};
 ghost use Rattle.reader.specs.Flat.{filled, cells, coefficients, entry-cells};
 ghost use Rattle.reader.specs.Extent.{Narrow};
-ghost use Rattle.reader.specs.Places.{place};
-ghost use Rattle.reader.specs.Values.{refusal-value, no-refusal, problem-value, answer-value, answer-of};
+ghost use Rattle.cursor.specs.Places.{place};
+ghost use Rattle.reader.specs.Values.{refusal-value, no-refusal, problem-value, answer-value, answer-of, with-arrays, with-entries, begun-off, begun-on};
 
 mod answer_file;
-mod fields;
-mod place;
 mod problem_file;
 mod runs;
 
 use crate::answer_file::read_all;
-use crate::place::Going;
-use crate::place::Stop;
-use crate::place::front;
+use crate::problem_file::Head;
 use crate::problem_file::Headed;
 use crate::problem_file::read_body;
 use crate::problem_file::read_head;
+use cursor::place::Going;
+use cursor::place::Stop;
+use cursor::place::front;
 use layout::COLUMN_COEFFICIENTS;
 use layout::ENTRY_COEFFICIENTS;
 use layout::ROWS;
@@ -49,6 +48,21 @@ pub struct Answer {
     pub lengths: [usize; SQUARE],
     pub entries: [u32; ENTRY_COEFFICIENTS],
     pub c: [u32; SQUARE],
+}
+
+// A problem without its arrays.
+struct Begun {
+    ok: bool,
+    refusal: Refusal,
+    p: u32,
+    m: usize,
+    n: usize,
+}
+
+// An answer without its arrays.
+struct Ended {
+    ok: bool,
+    refusal: Refusal,
 }
 
 // Orders, all 0.
@@ -123,43 +137,59 @@ fn accepted() -> Refusal
 }
 
 // x: a refusal, whose offsets fit 32 bits.
-// The problem that was so refused.
-fn refused_problem(x: Stop) -> Problem
+// A problem that was so refused.
+fn off(x: Stop) -> Begun
     requires { ⌜ Narrow (place (x .place)) ⌝ }
-    ensures { λ r. ⌜ r ≡ problem-value (refused (refusal x)) ⌝ }
+    ensures { λ r. ⌜ r ≡ begun-off (refusal x) ⌝ }
 {
     let refusal = narrow(x);
-    let orders = no_orders();
-    let shifts = no_shifts();
-    let f = no_coefficients();
-    Problem {
+    Begun {
         ok: false,
         refusal,
         p: 0,
         m: 0,
         n: 0,
-        orders,
-        shifts,
-        f,
     }
 }
 
-// x: a refusal, whose offsets fit 32 bits.
-// The answer that was so refused.
-fn refused_answer(x: Stop) -> Answer
-    requires { ⌜ Narrow (place (x .place)) ⌝ }
-    ensures { λ r. ⌜ r ≡ answer-value (refused (refusal x)) ⌝ }
+// h: what the `PR` record holds.
+// A problem with these numbers that was read.
+fn on(h: Head) -> Begun
+    ensures { λ r. ⌜ r ≡ begun-on (h .p) (h .m) (h .n) ⌝ }
 {
-    let refusal = narrow(x);
-    let lengths = no_lengths();
-    let entries = no_entries();
-    let c = no_evidence();
-    Answer {
-        ok: false,
+    let refusal = accepted();
+    Begun {
+        ok: true,
         refusal,
-        lengths,
-        entries,
-        c,
+        p: h.p,
+        m: h.m,
+        n: h.n,
+    }
+}
+
+// s: the problem file, of any bytes. orders, shifts and f: all 0; where the orders, the shifts and the coefficients of F go. They are all 0
+// again where the problem is refused: with one struct made at the end, whatever was found, the arrays are copied once.
+// The rest of the problem.
+fn problem_into(
+    s: &[u8],
+    orders: &mut [usize; ROWS],
+    shifts: &mut [i32; ROWS],
+    f: &mut [u32; COLUMN_COEFFICIENTS],
+) -> Begun
+    requires { ⌜ (now orders ≡ filled most-rows 0) × ((now shifts ≡ filled most-rows (pos 0)) × (now f ≡ filled coefficients 0)) ⌝ }
+    ensures { λ r. ⌜ with-arrays r (now (orders .exit)) (now (shifts .exit)) (now (f .exit)) ≡ problem-value (read-problem (now (s .entry))) ⌝ }
+{
+    match read_head(s, front(0)) {
+        Headed::Off(x) => off(x),
+        Headed::Got(h, q) => match read_body(s, q, h.p, h.m, h.n, orders, shifts, f) {
+            Going::Off(x) => {
+                *orders = no_orders();
+                *shifts = no_shifts();
+                *f = no_coefficients();
+                off(x)
+            }
+            Going::On(_) => on(h),
+        },
     }
 }
 
@@ -168,32 +198,54 @@ fn refused_answer(x: Stop) -> Answer
 pub fn read_problem(s: &[u8]) -> Problem
     ensures { λ r. ⌜ r ≡ problem-value (read-problem (now (s .entry))) ⌝ }
 {
-    match read_head(s, front(0)) {
-        Headed::Off(x) => refused_problem(x),
-        Headed::Got(h, q) => {
-            let p = h.p;
-            let m = h.m;
-            let n = h.n;
-            let mut orders = no_orders();
-            let mut shifts = no_shifts();
-            let mut f = no_coefficients();
-            match read_body(s, q, p, m, n, &mut orders, &mut shifts, &mut f) {
-                Going::Off(x) => refused_problem(x),
-                Going::On(_) => {
-                    let refusal = accepted();
-                    Problem {
-                        ok: true,
-                        refusal,
-                        p,
-                        m,
-                        n,
-                        orders,
-                        shifts,
-                        f,
-                    }
-                }
+    let mut orders = no_orders();
+    let mut shifts = no_shifts();
+    let mut f = no_coefficients();
+    let b = problem_into(s, &mut orders, &mut shifts, &mut f);
+    let refusal = b.refusal;
+    Problem {
+        ok: b.ok,
+        refusal,
+        p: b.p,
+        m: b.m,
+        n: b.n,
+        orders,
+        shifts,
+        f,
+    }
+}
+
+// t: the answer file, of any bytes. p, m and n: the problem's. with_evidence: whether the `CE` record is due. lengths, entries and c: all 0;
+// where the entries' lengths and coefficients and C go. They are all 0 again where the answer is refused.
+// The rest of the answer.
+fn answer_into(
+    t: &[u8],
+    p: u32,
+    m: usize,
+    n: usize,
+    with_evidence: bool,
+    lengths: &mut [usize; SQUARE],
+    entries: &mut [u32; ENTRY_COEFFICIENTS],
+    c: &mut [u32; SQUARE],
+) -> Ended
+    requires { ⌜ (m ≤ most-rows) × (n ≤ most-rows) ⌝ }
+    requires { ⌜ (now lengths ≡ filled cells 0) × ((now entries ≡ filled entry-cells 0) × (now c ≡ filled cells 0)) ⌝ }
+    ensures { λ r. ⌜ with-entries r (now (lengths .exit)) (now (entries .exit)) (now (c .exit)) ≡ answer-value (answer-of p m n «with_evidence» (now (t .entry))) ⌝ }
+{
+    match read_all(t, front(1), p, m, n, with_evidence, lengths, entries, c) {
+        Going::Off(x) => {
+            *lengths = no_lengths();
+            *entries = no_entries();
+            *c = no_evidence();
+            Ended {
+                ok: false,
+                refusal: narrow(x),
             }
         }
+        Going::On(_) => Ended {
+            ok: true,
+            refusal: accepted(),
+        },
     }
 }
 
@@ -206,9 +258,8 @@ pub fn read_answer(t: &[u8], p: u32, m: usize, n: usize, with_evidence: bool) ->
     let mut lengths = no_lengths();
     let mut entries = no_entries();
     let mut c = no_evidence();
-    match read_all(
+    let a = answer_into(
         t,
-        front(1),
         p,
         m,
         n,
@@ -216,17 +267,13 @@ pub fn read_answer(t: &[u8], p: u32, m: usize, n: usize, with_evidence: bool) ->
         &mut lengths,
         &mut entries,
         &mut c,
-    ) {
-        Going::Off(x) => refused_answer(x),
-        Going::On(_) => {
-            let refusal = accepted();
-            Answer {
-                ok: true,
-                refusal,
-                lengths,
-                entries,
-                c,
-            }
-        }
+    );
+    let refusal = a.refusal;
+    Answer {
+        ok: a.ok,
+        refusal,
+        lengths,
+        entries,
+        c,
     }
 }

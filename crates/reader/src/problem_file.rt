@@ -4,24 +4,27 @@ ghost use Prim.Native.Nat.{ℕ, _+_, _*_, _≤_, _<_};
 ghost use lib.ListN.{length, getD};
 ghost use Rattle.rules.specs.Sizes.{most-rows, most-order};
 ghost use Rattle.rules.specs.Reader.{each, field, unless};
-ghost use Rattle.rules.specs.Files.{PR, OR, SH, FC, one-to, two's-complement};
-ghost use Rattle.reader.specs.Places.{place, going, headed};
+ghost use Rattle.rules.specs.Files.{PR, OR, SH, FC, one-to};
+ghost use Rattle.cursor.specs.Places.{place, going};
+ghost use Rattle.reader.specs.Head.{headed};
 ghost use Rattle.reader.specs.Storing.{into};
 ghost use Rattle.reader.specs.Flat.{list-into, shifts-into, put-column, columns-into, column-size, coefficients, filled, body-into};
 ghost use Rattle.reader.specs.Shifts.{shift-reader};
 ghost use Rattle.reader.specs.Records.{sizes-reader};
 ghost use Rattle.reader.specs.Values.{body-reader};
-use crate::fields::Test;
-use crate::fields::read;
-use crate::place::Field;
-use crate::place::Going;
-use crate::place::Place;
-use crate::place::Stop;
-use crate::place::after;
-use crate::place::closed;
-use crate::place::finish;
-use crate::place::opened;
 use crate::runs::block;
+use cursor::fields::Test;
+use cursor::fields::read;
+use cursor::fields::read_prime;
+use cursor::fields::signed16;
+use cursor::place::Field;
+use cursor::place::Going;
+use cursor::place::Place;
+use cursor::place::Stop;
+use cursor::place::after;
+use cursor::place::closed;
+use cursor::place::finish;
+use cursor::place::opened;
 use layout::ORDER;
 use layout::ROWS;
 
@@ -56,7 +59,7 @@ fn order_list(s: &[u8], q: Place, n: usize, out: &mut [usize]) -> Going
     let mut here = q;
     let mut j = 0;
     while j < n {
-        match read(s, here, Test::Size(1, ORDER as u32)) {
+        match read(s, here, Test::Size, 1, ORDER as u32) {
             Field::Off(x) => return Going::Off(x),
             Field::Value(v, next) => {
                 out[j] = v as usize;
@@ -68,18 +71,6 @@ fn order_list(s: &[u8], q: Place, n: usize, out: &mut [usize]) -> Going
     Going::On(here)
 }
 
-// v: a number of two bytes.
-// The signed number whose two's complement it is.
-fn signed16(v: u32) -> i32
-    requires { ⌜ v < 65536 ⌝ }
-    ensures { λ r. ⌜ r ≡ two's-complement v ⌝ }
-{
-    if v < 32768 {
-        return v as i32;
-    }
-    v as i32 - 65536
-}
-
 // s: the file. q: the place of the first of m shifts. out: where they go.
 // How the reading goes on after them.
 fn shift_list(s: &[u8], q: Place, m: usize, out: &mut [i32]) -> Going
@@ -89,7 +80,7 @@ fn shift_list(s: &[u8], q: Place, m: usize, out: &mut [i32]) -> Going
     let mut here = q;
     let mut i = 0;
     while i < m {
-        match read(s, here, Test::Shift) {
+        match read(s, here, Test::Shift, 0, 0) {
             Field::Off(x) => return Going::Off(x),
             Field::Value(v, next) => {
                 out[i] = signed16(v);
@@ -107,9 +98,9 @@ fn head_sizes(s: &[u8], q: Place, p: u32) -> Headed
     requires { ⌜ q .number < 65535 ⌝ }
     ensures { λ r. ⌜ headed r ≡ sizes-reader p (now (s .entry)) (place q) ⌝ }
 {
-    match read(s, q, Test::Size(1, ROWS as u32)) {
+    match read(s, q, Test::Size, 1, ROWS as u32) {
         Field::Off(x) => Headed::Off(x),
-        Field::Value(m, q1) => match read(s, q1, Test::Size(1, ROWS as u32)) {
+        Field::Value(m, q1) => match read(s, q1, Test::Size, 1, ROWS as u32) {
             Field::Off(x) => Headed::Off(x),
             Field::Value(n, q2) => Headed::Got(
                 Head {
@@ -129,9 +120,9 @@ pub fn read_head(s: &[u8], q: Place) -> Headed
     requires { ⌜ q .number < 65535 ⌝ }
     ensures { λ r. ⌜ headed r ≡ PR (now (s .entry)) (place q) ⌝ }
 {
-    match read(s, opened(q), Test::Mark(PR)) {
+    match read(s, opened(q), Test::Mark, PR, 0) {
         Field::Off(x) => Headed::Off(x),
-        Field::Value(_, q1) => match read(s, q1, Test::Prime) {
+        Field::Value(_, q1) => match read_prime(s, q1) {
             Field::Off(x) => Headed::Off(x),
             Field::Value(p, q2) => head_sizes(s, q2, p),
         },
@@ -144,7 +135,7 @@ pub fn read_orders(s: &[u8], q: Place, n: usize, out: &mut [usize]) -> Going
     requires { ⌜ (q .number < 65535) × (n ≤ length (now out)) ⌝ }
     ensures { λ r. ⌜ going r (now (out .exit)) ≡ into (list-into (now (out .entry))) (OR n (now (s .entry)) (place q)) ⌝ }
 {
-    match read(s, opened(q), Test::Mark(OR)) {
+    match read(s, opened(q), Test::Mark, OR, 0) {
         Field::Off(x) => Going::Off(x),
         Field::Value(_, q1) => closed(order_list(s, q1, n, out)),
     }
@@ -156,7 +147,7 @@ pub fn read_shifts(s: &[u8], q: Place, m: usize, out: &mut [i32]) -> Going
     requires { ⌜ (q .number < 65535) × (m ≤ length (now out)) ⌝ }
     ensures { λ r. ⌜ going r (now (out .exit)) ≡ into (shifts-into (now (out .entry))) (SH m (now (s .entry)) (place q)) ⌝ }
 {
-    match read(s, opened(q), Test::Mark(SH)) {
+    match read(s, opened(q), Test::Mark, SH, 0) {
         Field::Off(x) => Going::Off(x),
         Field::Value(_, q1) => closed(shift_list(s, q1, m, out)),
     }
@@ -177,9 +168,9 @@ fn read_column(s: &[u8], q: Place, p: u32, m: usize, d: usize, j: usize, out: &m
     requires { ⌜ (q .number < 65535) × (m ≤ most-rows) × (d ≤ most-order) × (j < most-rows) × (length (now out) ≡ coefficients) ⌝ }
     ensures { λ r. ⌜ going r (now (out .exit)) ≡ into (put-column (now (out .entry)) j) (FC p m d j (now (s .entry)) (place q)) ⌝ }
 {
-    match read(s, opened(q), Test::Mark(FC)) {
+    match read(s, opened(q), Test::Mark, FC, 0) {
         Field::Off(x) => Going::Off(x),
-        Field::Value(_, q1) => match read(s, q1, Test::Due(j as u32)) {
+        Field::Value(_, q1) => match read(s, q1, Test::Due, j as u32, 0) {
             Field::Off(x) => Going::Off(x),
             Field::Value(_, q2) => closed(block(s, q2, p, m, d, out, column_at(j), ORDER)),
         },

@@ -4,26 +4,22 @@ ghost use Prim.Native.Nat.{_+_, _*_, _≤_};
 ghost use lib.ListN.{length};
 ghost use Rattle.rules.specs.Reader.{field, each};
 ghost use Rattle.rules.specs.Files.{coefficient-test, residue};
-ghost use Rattle.reader.specs.Places.{place, going};
-ghost use Rattle.reader.specs.Tests.{coefficient-of};
+ghost use Rattle.cursor.specs.Places.{place, going};
+ghost use Rattle.cursor.specs.Tests.{coefficient-of};
 ghost use Rattle.reader.specs.Storing.{into};
 ghost use Rattle.reader.specs.Flat.{run-into, block-into};
-use crate::fields::Test;
-use crate::fields::read;
-use crate::place::Field;
-use crate::place::Going;
-use crate::place::Place;
+use cursor::fields::Test;
+use cursor::fields::read;
+use cursor::place::Field;
+use cursor::place::Going;
+use cursor::place::Place;
 
-// p: the prime. last: whether the coefficient is an entry's last one, which may not be 0.
+// last: whether a coefficient is an entry's last one, which may not be 0.
 // Its test.
-fn coefficient(p: u32, last: bool) -> Test
-    ensures { λ r. ⌜ r ≡ coefficient-of p last ⌝ }
+fn coefficient(last: bool) -> Test
+    ensures { λ r. ⌜ r ≡ coefficient-of last ⌝ }
 {
-    if last {
-        Test::Last(p)
-    } else {
-        Test::Residue(p)
-    }
+    if last { Test::Last } else { Test::Residue }
 }
 
 // s: the file. q: the place of the first of `count` coefficients modulo p. last: the count at which one may not be 0, or 0. out: where they go, from `base` on.
@@ -43,7 +39,7 @@ pub fn run(
     let mut here = q;
     let mut k = 0;
     while k < count {
-        match read(s, here, coefficient(p, k + 1 == last)) {
+        match read(s, here, coefficient(k + 1 == last), p, 0) {
             Field::Off(x) => return Going::Off(x),
             Field::Value(v, next) => {
                 out[base + k] = v;

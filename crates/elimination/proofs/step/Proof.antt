@@ -1,10 +1,18 @@
--- An exchange of rows and the clearing of a column are a step of elimination.
+-- An exchange of rows and the clearing of a column are a step of elimination; the last row needs neither.
 use native.Mathlib.Omega.{arith}
 use borrow.Author.Needs.{needs}
-use Rattle.elimination.specs.Laws.{exchanged-below, stepped}
+use Rattle.elimination.specs.Laws.{exchanged-below, stepped, stepped-last}
 use Rattle.rules.specs.Sizes.{most-rows}
 use Rattle.elimination.proofs.step.Statement.{statement}
 use Rattle.elimination.proofs.step.Tie as tie
+
+add-if1 : tie.Need-add-if1
+add-if1 c = search needs
+
+returns : tie.Need-returns
+returns c =
+    let s = c .before in
+    stepped-last _ (s .pre .0) _ _ _ _ _ _ (omega arith) (omega arith) (c .if1 .taken) (omega arith) (s .pre .1 .1 .1 .1 .1 .1 .1) (s .pre .1 .0 _ _) (s .pre .1 .0)
 
 mul-inverse-mod : tie.Need-mul-inverse-mod
 unfolding most-rows
@@ -23,19 +31,19 @@ unfolding most-rows
 index-2-inverse-mod c = search needs
 
 inverse-mod-requires : tie.Need-inverse-mod-requires
-inverse-mod-requires c κs = (c .before .pre .0, c .before .pre .1 .0 _ _)
+inverse-mod-requires c κs = (c .before .before .pre .0, c .before .before .pre .1 .0 _ _)
 
 swap-rows-requires : tie.Need-swap-rows-requires
 swap-rows-requires c κs = search needs
 
 clear-below-requires : tie.Need-clear-below-requires
 clear-below-requires c κs =
-    let s = c .before .before .before in
+    let s = c .before .before .before .before in
     (exchanged-below _ (s .args .t1) (s .args .r) (s .args .k) (c .swap-rows .result) (c .swap-rows .ensures) (s .pre .1 .0), (omega arith, (omega arith, (omega arith, omega arith))))
 
-returns : tie.Need-returns
-returns c =
-    let s = c .before .before .before .before in
+returns-2 : tie.Need-returns-2
+returns-2 c =
+    let s = c .before .before .before .before .before in
     stepped _ (s .pre .0) _ _ _ _ _ _ _ _ _ (omega arith) (omega arith) (omega arith) (s .pre .1 .1 .1 .1 .1 .1 .1) (s .pre .1 .0 _ _)
     (c .before .before .inverse-mod .ensures) (c .before .swap-rows .ensures) (c .clear-below .ensures)
 
@@ -43,6 +51,8 @@ pub step-spec : {M : Type 1} → statement M
 step-spec =
     tie.close
     (tie.spec
+    add-if1
+    returns
     mul-inverse-mod
     mul-inverse-mod-2
     index-1-inverse-mod
@@ -50,4 +60,4 @@ step-spec =
     inverse-mod-requires
     swap-rows-requires
     clear-below-requires
-    returns)
+    returns-2)

@@ -7,13 +7,13 @@ use Rattle.rules.specs.Sizes.{most-rows, most-length}
 use Rattle.rules.specs.Reader.{Reader, field}
 use Rattle.rules.specs.Files.{due}
 use Rattle.reader.specs.Records.{count-reader, refuses, gives, then-refused, then-given, length-field}
-use Rattle.reader.specs.Places.{place, taken}
+use Rattle.cursor.specs.Places.{place, taken}
 use Rattle.reader.proofs.answer_file.entry_count.Statement.{statement}
 use Rattle.reader.proofs.answer_file.entry_count.Tie as tie
 
-cast-t10 : tie.Need-cast-t10
+cast-read : tie.Need-cast-read
 unfolding most-rows
-cast-t10 c = omega arith
+cast-read c = omega arith
 
 read-requires : tie.Need-read-requires
 read-requires c κs = search needs
@@ -33,9 +33,9 @@ enum-known-x c = search needs
 enum-known-q1 : tie.Need-enum-known-q1
 enum-known-q1 c = search needs
 
-cast-t14 : tie.Need-cast-t14
+cast-read-2 : tie.Need-cast-read-2
 unfolding most-rows
-cast-t14 c = omega arith
+cast-read-2 c = omega arith
 
 read-requires-2 : tie.Need-read-requires-2
 read-requires-2 c κs = search needs
@@ -46,8 +46,8 @@ enum-known-x-2 c = search needs
 enum-known-q2 : tie.Need-enum-known-q2
 enum-known-q2 c = search needs
 
-cast-t17 : tie.Need-cast-t17
-cast-t17 c = search needs
+cast-read-3 : tie.Need-cast-read-3
+cast-read-3 c = search needs
 
 read-requires-3 : tie.Need-read-requires-3
 read-requires-3 c κs = search needs
@@ -79,15 +79,15 @@ pub entry-count-spec : {M : Type 1} → statement M
 entry-count-spec =
     tie.close
     (tie.spec
-    cast-t10
+    cast-read
     read-requires
     enum-known-x
     enum-known-q1
-    cast-t14
+    cast-read-2
     read-requires-2
     enum-known-x-2
     enum-known-q2
-    cast-t17
+    cast-read-3
     read-requires-3
     returns
     returns-2

@@ -9,13 +9,13 @@ use Rattle.rules.specs.Sizes.{most-rows, most-length}
 use Rattle.rules.specs.Reader.{each, Place, field}
 use Rattle.rules.specs.Files.{PE, coefficient-test}
 use Rattle.rules.specs.ReaderLaws.{opening}
-use Rattle.reader.specs.declared.fields.Test.the-variants.{Mark}
+use Rattle.cursor.specs.declared.fields.Test.the-variants.{Mark}
 use Rattle.reader.specs.Flat.{put-entry, run-into, cells, entry-cells}
 use Rattle.reader.specs.Storing.{into}
 use Rattle.reader.specs.Records.{closed-into, list-numbered, refuses, gives, record-refused, record-given, refused-into, field-near, count-moves, PE-after-mark, beside}
 use Rattle.reader.specs.Reach.{any-field, moves-each, moved-got}
-use Rattle.reader.specs.Tests.{code-of}
-use Rattle.reader.specs.Places.{place, taken, going}
+use Rattle.cursor.specs.Tests.{code-of}
+use Rattle.cursor.specs.Places.{place, taken, going}
 use Rattle.reader.proofs.answer_file.read_entry.Statement.{statement}
 use Rattle.reader.proofs.answer_file.read_entry.Tie as tie
 
@@ -27,11 +27,11 @@ read-requires c κs = search needs
 
 -- The mark, at the record's first byte.
 mark-read : (c : tie.After-read) → let args = c .before .before .before .before .before .args in
-    taken (c .read .result) ≡ field 2 (code-of (Mark 17744)) (args .s .now) (opening (place (args .q)))
+    taken (c .read .result) ≡ field 2 (code-of Mark 17744 0) (args .s .now) (opening (place (args .q)))
 mark-read c =
     let c₅ = c .before .before .before .before .before in
     c .read .ensures
-    ∙ ap (λ (p : Place). field 2 (code-of (Mark 17744)) (c₅ .args .s .now) p) (ap place (c .before .opened .ensures))
+    ∙ ap (λ (p : Place). field 2 (code-of Mark 17744 0) (c₅ .args .s .now) p) (ap place (c .before .opened .ensures))
 
 enum-known-x : tie.Need-enum-known-x
 enum-known-x c = search needs

@@ -6,14 +6,14 @@ use borrow.Author.Needs.{needs}
 use Rattle.rules.specs.Sizes.{most-rows}
 use Rattle.rules.specs.Reader.{Result, got, field, unless, next}
 use Rattle.rules.specs.Files.{one-to}
-use Rattle.reader.specs.declared.place.Place.{Place as Spot}
+use Rattle.cursor.specs.declared.place.Place.{Place as Spot}
 use Rattle.reader.specs.Records.{sizes-reader, refuses, gives, record-refused, record-given, field-near}
-use Rattle.reader.specs.Places.{place, taken}
+use Rattle.cursor.specs.Places.{place, taken}
 use Rattle.reader.proofs.problem_file.head_sizes.Statement.{statement}
 use Rattle.reader.proofs.problem_file.head_sizes.Tie as tie
 
-cast-t11 : tie.Need-cast-t11
-cast-t11 c = search needs
+cast-read : tie.Need-cast-read
+cast-read c = search needs
 
 read-requires : tie.Need-read-requires
 read-requires c κs = search needs
@@ -35,8 +35,8 @@ enum-known-x c = search needs
 enum-known-m : tie.Need-enum-known-m
 enum-known-m c = search needs
 
-cast-t15 : tie.Need-cast-t15
-cast-t15 c = search needs
+cast-read-2 : tie.Need-cast-read-2
+cast-read-2 c = search needs
 
 read-requires-2 : tie.Need-read-requires-2
 read-requires-2 c κs = search needs
@@ -87,11 +87,11 @@ pub head-sizes-spec : {M : Type 1} → statement M
 head-sizes-spec =
     tie.close
     (tie.spec
-    cast-t11
+    cast-read
     read-requires
     enum-known-x
     enum-known-m
-    cast-t15
+    cast-read-2
     read-requires-2
     enum-known-x-2
     enum-known-n

@@ -9,7 +9,7 @@ use Rattle.rules.specs.Sizes.{most-order}
 use Rattle.rules.specs.Reader.{field, unless}
 use Rattle.rules.specs.Files.{one-to}
 use Rattle.reader.specs.Storing.{Kept, began, stopped, went-on, ended, field-off, field-on}
-use Rattle.reader.specs.Places.{place, taken}
+use Rattle.cursor.specs.Places.{place, taken}
 use Rattle.reader.proofs.problem_file.order_list.Statement.{statement}
 use Rattle.reader.proofs.problem_file.order_list.Tie as tie
 
@@ -29,8 +29,8 @@ order-read c = c .read .ensures
 loop-holds : tie.Need-loop-holds Inv-loop μ-loop
 loop-holds c = (omega arith, refl, began _ _ _ _ _ _)
 
-cast-t12 : tie.Need-cast-t12 Inv-loop μ-loop
-cast-t12 c = search needs
+cast-read : tie.Need-cast-read Inv-loop μ-loop
+cast-read c = search needs
 
 read-requires : tie.Need-read-requires Inv-loop μ-loop
 read-requires c κs = search needs
@@ -88,7 +88,7 @@ order-list-spec =
     Inv-loop
     μ-loop
     loop-holds
-    cast-t12
+    cast-read
     read-requires
     enum-known-x
     same-length

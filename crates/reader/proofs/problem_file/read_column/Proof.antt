@@ -7,12 +7,12 @@ use Rattle.rules.specs.Sizes.{most-rows, most-order}
 use Rattle.rules.specs.Reader.{each, Place, field}
 use Rattle.rules.specs.Files.{FC, due, residue}
 use Rattle.rules.specs.ReaderLaws.{opening}
-use Rattle.reader.specs.declared.fields.Test.the-variants.{Mark}
+use Rattle.cursor.specs.declared.fields.Test.the-variants.{Mark}
 use Rattle.reader.specs.Flat.{put-column, block-into, column-size, coefficients}
 use Rattle.reader.specs.Storing.{into}
 use Rattle.reader.specs.Records.{closed-into, list-numbered, refuses, gives, record-refused, record-given, refused-into, field-near, block-row-moves}
-use Rattle.reader.specs.Tests.{code-of}
-use Rattle.reader.specs.Places.{place, taken, going}
+use Rattle.cursor.specs.Tests.{code-of}
+use Rattle.cursor.specs.Places.{place, taken, going}
 use Rattle.reader.proofs.problem_file.read_column.Statement.{statement}
 use Rattle.reader.proofs.problem_file.read_column.Tie as tie
 
@@ -24,10 +24,10 @@ read-requires c κs = search needs
 
 -- The mark, at the record's first byte.
 mark-read : (c : tie.After-read) → let args = c .before .before .before .before .args in
-    taken (c .read .result) ≡ field 2 (code-of (Mark 17222)) (args .s .now) (opening (place (args .q)))
+    taken (c .read .result) ≡ field 2 (code-of Mark 17222 0) (args .s .now) (opening (place (args .q)))
 mark-read c =
     c .read .ensures
-    ∙ ap (λ (p : Place). field 2 (code-of (Mark 17222)) (c .before .before .before .before .args .s .now) p) (ap place (c .before .opened .ensures))
+    ∙ ap (λ (p : Place). field 2 (code-of Mark 17222 0) (c .before .before .before .before .args .s .now) p) (ap place (c .before .opened .ensures))
 
 enum-known-x : tie.Need-enum-known-x
 enum-known-x c = search needs
@@ -35,9 +35,9 @@ enum-known-x c = search needs
 enum-known-q1 : tie.Need-enum-known-q1
 enum-known-q1 c = search needs
 
-cast-t17 : tie.Need-cast-t17
+cast-read : tie.Need-cast-read
 unfolding most-rows
-cast-t17 c = omega arith
+cast-read c = omega arith
 
 read-requires-2 : tie.Need-read-requires-2
 read-requires-2 c κs = search needs
@@ -126,7 +126,7 @@ read-column-spec =
     read-requires
     enum-known-x
     enum-known-q1
-    cast-t17
+    cast-read
     read-requires-2
     enum-known-x-2
     enum-known-q2

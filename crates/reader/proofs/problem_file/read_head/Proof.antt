@@ -2,13 +2,13 @@
 use mathlib.Core.Path.{_≡_, sym, ap, _∙_}
 use native.Mathlib.Omega.{arith}
 use borrow.Author.Needs.{needs}
-use Rattle.rules.specs.Reader.{Place, field}
-use Rattle.rules.specs.Files.{PR}
+use Rattle.rules.specs.Reader.{Place, field, unless}
+use Rattle.rules.specs.Files.{PR, allowed-prime}
 use Rattle.rules.specs.ReaderLaws.{opening}
-use Rattle.reader.specs.declared.fields.Test.the-variants.{Mark, Prime}
+use Rattle.cursor.specs.declared.fields.Test.the-variants.{Mark}
 use Rattle.reader.specs.Records.{sizes-reader, refuses, gives, record-refused, record-given, field-near}
-use Rattle.reader.specs.Tests.{code-of}
-use Rattle.reader.specs.Places.{place, taken}
+use Rattle.cursor.specs.Tests.{code-of}
+use Rattle.cursor.specs.Places.{place, taken}
 use Rattle.reader.proofs.problem_file.read_head.Statement.{statement}
 use Rattle.reader.proofs.problem_file.read_head.Tie as tie
 
@@ -20,10 +20,10 @@ read-requires c κs = search needs
 
 -- The mark, at the record's first byte.
 mark-read : (c : tie.After-read) → let args = c .before .before .before .args in
-    taken (c .read .result) ≡ field 2 (code-of (Mark 21072)) (args .s .now) (opening (place (args .q)))
+    taken (c .read .result) ≡ field 2 (code-of Mark 21072 0) (args .s .now) (opening (place (args .q)))
 mark-read c =
     c .read .ensures
-    ∙ ap (λ (p : Place). field 2 (code-of (Mark 21072)) (c .before .before .before .args .s .now) p) (ap place (c .before .opened .ensures))
+    ∙ ap (λ (p : Place). field 2 (code-of Mark 21072 0) (c .before .before .before .args .s .now) p) (ap place (c .before .opened .ensures))
 
 enum-known-x : tie.Need-enum-known-x
 enum-known-x c = search needs
@@ -31,13 +31,13 @@ enum-known-x c = search needs
 enum-known-q1 : tie.Need-enum-known-q1
 enum-known-q1 c = search needs
 
-read-requires-2 : tie.Need-read-requires-2
-read-requires-2 c κs = search needs
+read-prime-requires : tie.Need-read-prime-requires
+read-prime-requires c κs = search needs
 
 -- The prime, at the place after the mark.
-prime-read : (c : tie.After-read2) → let c₇ = c .before .before .before .before .before .before .before in
-    taken (c .read2 .result) ≡ field 4 (code-of Prime) (c₇ .args .s .now) (place (c .before .before .q1 .given .0 .1 .0))
-prime-read c = c .read2 .ensures
+prime-read : (c : tie.After-read-prime) → let c₇ = c .before .before .before .before .before .before .before in
+    taken (c .read-prime .result) ≡ field 4 (unless 4 allowed-prime) (c₇ .args .s .now) (place (c .before .before .q1 .given .0 .1 .0))
+prime-read c = c .read-prime .ensures
 
 enum-known-x-2 : tie.Need-enum-known-x-2
 enum-known-x-2 c = search needs
@@ -81,7 +81,7 @@ read-head-spec =
     read-requires
     enum-known-x
     enum-known-q1
-    read-requires-2
+    read-prime-requires
     enum-known-x-2
     enum-known-p
     head-sizes-requires

@@ -5,13 +5,13 @@ use borrow.Author.Needs.{needs}
 use Rattle.rules.specs.Reader.{Place, field}
 use Rattle.rules.specs.Files.{SH}
 use Rattle.rules.specs.ReaderLaws.{opening}
-use Rattle.reader.specs.declared.fields.Test.the-variants.{Mark}
+use Rattle.cursor.specs.declared.fields.Test.the-variants.{Mark}
 use Rattle.reader.specs.Flat.{shifts-into}
 use Rattle.reader.specs.Storing.{into}
 use Rattle.reader.specs.Records.{closed-into, list-numbered, refuses, gives, record-refused, record-given, refused-into, field-near}
 use Rattle.reader.specs.Shifts.{shift-moves}
-use Rattle.reader.specs.Tests.{code-of}
-use Rattle.reader.specs.Places.{place, taken}
+use Rattle.cursor.specs.Tests.{code-of}
+use Rattle.cursor.specs.Places.{place, taken}
 use Rattle.reader.proofs.problem_file.read_shifts.Statement.{statement}
 use Rattle.reader.proofs.problem_file.read_shifts.Tie as tie
 
@@ -23,10 +23,10 @@ read-requires c κs = search needs
 
 -- The mark, at the record's first byte.
 mark-read : (c : tie.After-read) → let args = c .before .before .before .args in
-    taken (c .read .result) ≡ field 2 (code-of (Mark 18515)) (args .s .now) (opening (place (args .q)))
+    taken (c .read .result) ≡ field 2 (code-of Mark 18515 0) (args .s .now) (opening (place (args .q)))
 mark-read c =
     c .read .ensures
-    ∙ ap (λ (p : Place). field 2 (code-of (Mark 18515)) (c .before .before .before .args .s .now) p) (ap place (c .before .opened .ensures))
+    ∙ ap (λ (p : Place). field 2 (code-of Mark 18515 0) (c .before .before .before .args .s .now) p) (ap place (c .before .opened .ensures))
 
 enum-known-x : tie.Need-enum-known-x
 enum-known-x c = search needs

@@ -7,12 +7,12 @@ use lib.ListN.{length, length-set}
 use borrow.Author.Needs.{needs}
 use Rattle.rules.specs.Reader.{Reader, field}
 use Rattle.rules.specs.Files.{coefficient-test}
-use Rattle.reader.specs.declared.fields.Test.{Test}
+use Rattle.cursor.specs.declared.fields.Test.{Test}
 use Rattle.reader.specs.Flat.{put-from}
 use Rattle.reader.specs.Storing.{Kept, began, stopped, went-on, ended, field-off, field-on}
-use Rattle.reader.specs.Fields.{coefficient-field}
-use Rattle.reader.specs.Tests.{width-of, code-of}
-use Rattle.reader.specs.Places.{place, taken}
+use Rattle.cursor.specs.Fields.{coefficient-field}
+use Rattle.cursor.specs.Tests.{width-of, code-of}
+use Rattle.cursor.specs.Places.{place, taken}
 use Rattle.reader.proofs.runs.run.Statement.{statement}
 use Rattle.reader.proofs.runs.run.Tie as tie
 
@@ -34,7 +34,7 @@ field-read c =
     let loop = c .before .before .before .loop in
     let args = c .before .before .before .before .before .before .args in
     c .read .ensures
-    ∙ ap (λ (t : Test). field (width-of t) (code-of t) (args .s .now) (place (loop .here))) (c .before .coefficient .ensures)
+    ∙ ap (λ (t : Test). field (width-of t) (code-of t (args .p) 0) (args .s .now) (place (loop .here))) (c .before .coefficient .ensures)
     ∙ ap (λ (r : Reader ℕ). r (args .s .now) (place (loop .here))) (coefficient-field (args .p) (args .last) (loop .k))
 
 loop-holds : tie.Need-loop-holds Inv-loop μ-loop

@@ -1,0 +1,3 @@
+// Reading front to back: where it stands, and one field read there.
+pub mod fields;
+pub mod place;
