@@ -9,6 +9,7 @@ use Rattle.algebra.specs.Residue.{K}
 use Rattle.algebra.specs.Series.{Series}
 use Rattle.algebra.specs.Det.{det}
 use Rattle.algebra.specs.Dependence.{Dependent}
+use Rattle.algebra.specs.OrderBasis.{Monomial}
 use Rattle.rules.specs.Conditions.{first-place}
 use Rattle.rules.specs.Verdict.{Verdict, passed, not-reduced, not-monomial, below-order, at-order, low-rank, natural, judge-claim, by-product, by-rank}
 use Rattle.rules.specs.SearchLaws.{first-place-some}
@@ -19,8 +20,8 @@ use Rattle.matrix.specs.Faults.{flat-fault, place-of}
 use Rattle.matrix.specs.Rank.{rank-number}
 use Rattle.matrix.specs.declared.fault.Place.{Place}
 use Rattle.matrix.specs.declared.fault.Place.the-variants.{At, Nowhere}
-use Rattle.elimination.specs.Grid.{grid, Settles}
-use Rattle.determinant.specs.Count.{Tells}
+use Rattle.layout.specs.Settles.{Settles}
+use Rattle.elimination.specs.Grid.{grid}
 use Rattle.conditions.specs.Held.{Arrays, Judged, claim}
 use Rattle.conditions.specs.Steps as Steps
 
@@ -85,7 +86,7 @@ module _ (p m n : ℕ) (x : Arrays) where
       sym (Steps.judged-not-reduced c (Steps.reduced-of x c held r (subst (λ l. Settles (det (K p) m (grid p l) ≡ K p .𝟘) r) e s) ∙ ap not t))
 
   pub answer-not-monomial : (rows : List (List ℕ)) (r d : Bool) → rows ≡ array-of m m (leading-number (x .entries) (x .lengths) (x .shifts) m)
-      → Settles (det (K p) m (grid p rows) ≡ K p .𝟘) r → r ≡ false → Tells p (det (Series (K p)) m (cells p (x .entries))) d → d ≡ false
+      → Settles (det (K p) m (grid p rows) ≡ K p .𝟘) r → r ≡ false → Settles (Monomial (K p) (det (Series (K p)) m (cells p (x .entries)))) d → d ≡ false
       → Judged judge-claim p m n x not-monomial
   answer-not-monomial rows r d e s t m? td os ss F P C held =
       let c = claim p m n os ss F P C in
@@ -93,7 +94,7 @@ module _ (p m n : ℕ) (x : Arrays) where
       (Steps.monomial-of x c held d m? ∙ td))
 
   pub answer-product : (rows : List (List ℕ)) (r d : Bool) (v : Verdict) → rows ≡ array-of m m (leading-number (x .entries) (x .lengths) (x .shifts) m)
-      → Settles (det (K p) m (grid p rows) ≡ K p .𝟘) r → r ≡ false → Tells p (det (Series (K p)) m (cells p (x .entries))) d → d ≡ true
+      → Settles (det (K p) m (grid p rows) ≡ K p .𝟘) r → r ≡ false → Settles (Monomial (K p) (det (Series (K p)) m (cells p (x .entries)))) d → d ≡ true
       → Judged by-product p m n x v → Judged judge-claim p m n x v
   answer-product rows r d v e s t m? td g os ss F P C held =
       let c = claim p m n os ss F P C in

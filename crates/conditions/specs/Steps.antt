@@ -25,8 +25,8 @@ use Rattle.matrix.specs.Fill.{array-of}
 use Rattle.matrix.specs.Degrees.{flat-degree-sum, leading-number}
 use Rattle.matrix.specs.Faults.{flat-fault}
 use Rattle.matrix.specs.Rank.{rank-number}
-use Rattle.elimination.specs.Grid.{grid, Settles}
-use Rattle.determinant.specs.Count.{Tells}
+use Rattle.layout.specs.Settles.{Settles}
+use Rattle.elimination.specs.Grid.{grid}
 use Rattle.conditions.specs.Held.{Arrays, Held}
 
 module _ (x : Arrays) (c : Claim) (held : Held x c) where
@@ -59,14 +59,14 @@ module _ (x : Arrays) (c : Claim) (held : Held x c) where
   reduced-of false s =
       reduced-iff (c .problem) (c .answer .P) .1 (λ e. s .fails refl (det-local (K (c .problem .p)) (c .problem .m) _ _ same-leading ∙ e))
 
-  pub monomial-of : (r : Bool) → Tells (c .problem .p) (det (Series (K (c .problem .p))) (c .problem .m) (cells (c .problem .p) (x .entries))) r
+  pub monomial-of : (r : Bool) → Settles (Monomial (K (c .problem .p)) (det (Series (K (c .problem .p))) (c .problem .m) (cells (c .problem .p) (x .entries)))) r
       → monomial-determinant (c .problem) (c .answer .P) ≡ r
   monomial-of true s =
       monomial-determinant-iff (c .problem) (c .answer .P) .1
-      (subst (Monomial (K (c .problem .p))) (det-local (Series (K (c .problem .p))) (c .problem .m) _ _ same-P) (s .pass refl))
+      (subst (Monomial (K (c .problem .p))) (det-local (Series (K (c .problem .p))) (c .problem .m) _ _ same-P) (s .holds refl))
   monomial-of false s =
       false-iff (monomial-determinant (c .problem) (c .answer .P)) .1
-      (λ e. s .fail refl
+      (λ e. s .fails refl
       (subst (Monomial (K (c .problem .p))) (sym (det-local (Series (K (c .problem .p))) (c .problem .m) _ _ same-P))
       (monomial-determinant-iff (c .problem) (c .answer .P) .0 e)))
 

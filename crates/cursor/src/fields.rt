@@ -12,12 +12,9 @@ ghost use Rattle.cursor.specs.Tests.{width-of, code-of, Width};
 use crate::place::Field;
 use crate::place::Place;
 use crate::place::Stop;
+use layout::PRIME;
+use layout::SHIFT;
 use primality::is_prime;
-
-// The largest prime, and the largest shift.
-const PRIME: u32 = 2_147_483_647;
-
-const SHIFT: u32 = 1_000;
 
 // The first number of two bytes that stands for a negative one.
 const NEGATIVE: u32 = 32_768;

@@ -1,7 +1,7 @@
 -- How a count of the numbers other than 0 tells whether exactly one coefficient of a polynomial is not 0.
 --   counted x                0 for 0 and 1 for every other number
 --   nonzeros g n             how many of g 0, …, g (n − 1) are not 0
---   Tells p f r              r tells whether f is a nonzero constant times a power of X
+--   count-settles            the count settles whether f is a nonzero constant times a power of X
 use mathlib.Core.Path.{_≡_, refl, sym, ap, subst, _∙_}
 use mathlib.Core.Logic.{_≢_}
 use mathlib.Core.Bool.{Bool, true, false, cond}
@@ -17,6 +17,7 @@ use borrow.Author.Tests.{eqb-true, eqb-false, eq-eqb, ne-eqb}
 use Rattle.algebra.specs.Residue.{K, Residue, red, red-zero-iff}
 use Rattle.algebra.specs.Series.{shift}
 use Rattle.algebra.specs.OrderBasis.{Monomial}
+use Rattle.layout.specs.Settles.{Settles}
 use Rattle.determinant.specs.Square.{Polynomial}
 
 -- 0 for 0 and 1 for every other number.
@@ -92,20 +93,15 @@ one-of-only g (suc n) e (b, ne, others) = elim (ℕ-discrete n e) [
     lower : n ≢ e → e < n
     lower d = omega arith
 
--- r tells whether exactly one coefficient of f is not 0.
-pub record Tells (p : ℕ) (f : ℕ → Residue p) (r : Bool) : Type 0 where
-  pub pass : r ≡ true → Monomial (K p) f
-  pub fail : r ≡ false → ¬ Monomial (K p) f
-
--- The count of the coefficients that an array has tells it.
-pub count-tells : {p top : ℕ} {f : ℕ → Residue p} {l : List ℕ} {r : Bool} → Polynomial p top f l
-    → r ≡ eqb (nonzeros (λ k. getD l (k + 2) 0) (top + 1)) 1 → Tells p f r
+-- The count of the coefficients that an array has settles whether exactly one coefficient of the polynomial is not 0.
+pub count-settles : {p top : ℕ} {f : ℕ → Residue p} {l : List ℕ} {r : Bool} → Polynomial p top f l
+    → r ≡ eqb (nonzeros (λ k. getD l (k + 2) 0) (top + 1)) 1 → Settles (Monomial (K p) f) r
 unfolding shift
-count-tells {p} {top} {f} {l} array counts = record {
-  pass = λ e.
+count-settles {p} {top} {f} {l} array counts = record {
+  holds = λ e.
       let (place, (b, ne, others)) = only-of-one g (top + 1) (eqb-true (nonzeros g (top + 1)) 1 (sym counts ∙ e)) in
       (place, λ z. ne (zero-below place z), λ k d. elim (decLt k (top + 1)) [ yes h ↦ zero-above k (others k h d) | no h ↦ array .below k (omega arith) ]);
-  fail = λ e monomial.
+  fails = λ e monomial.
       let (place, ne, others) = monomial in
       eqb-false (nonzeros g (top + 1)) 1 (sym counts ∙ e)
       (one-of-only g (top + 1) place (

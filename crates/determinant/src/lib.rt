@@ -17,8 +17,10 @@ ghost use Rattle.algebra.specs.Residue.{K};
 ghost use Rattle.algebra.specs.Series.{Series};
 ghost use Rattle.algebra.specs.Sum.{skip};
 ghost use Rattle.algebra.specs.Det.{det};
+ghost use Rattle.algebra.specs.OrderBasis.{Monomial};
 ghost use Rattle.rules.specs.Sizes.{most-rows, most-length};
 ghost use Rattle.layout.specs.Flat.{cells};
+ghost use Rattle.layout.specs.Settles.{Settles};
 ghost use Rattle.determinant.specs.Padded.{most-power, capacity, Each, Filled, Remainder};
 ghost use Rattle.determinant.specs.Fold.{Folded};
 ghost use Rattle.determinant.specs.Product.{Added, AddedTriple, AddedProduct};
@@ -26,7 +28,7 @@ ghost use Rattle.determinant.specs.Sign.{Signed, SignedEntry};
 ghost use Rattle.determinant.specs.Tops.{Tops, RowTop, length-at};
 ghost use Rattle.determinant.specs.Square.{Holds, Asked, Determinant, Without};
 ghost use Rattle.determinant.specs.Expansion.{InOrder};
-ghost use Rattle.determinant.specs.Count.{Tells, counted, nonzeros};
+ghost use Rattle.determinant.specs.Count.{counted, nonzeros};
 
 // The highest power in a determinant: each row contributes one entry.
 const MOST_POWER: usize = ROWS * (LENGTH - 1);
@@ -338,7 +340,7 @@ pub fn determinant_is_monomial(
     m: usize,
 ) -> bool
     requires { ⌜ Holds p m (now a) (now lengths) ⌝ }
-    ensures { λ r. ⌜ Tells p (det (Series (K p)) m (cells p (now (a .entry)))) r ⌝ }
+    ensures { λ r. ⌜ Settles (Monomial (K p) (det (Series (K p)) m (cells p (now (a .entry))))) r ⌝ }
 {
     let tops = row_tops(lengths, m);
     let columns = all_columns();

@@ -8,11 +8,9 @@
 --   Cleared p a v r c m n b  b is a with a multiple of row r taken from each row below it
 --   Stepped p a r c m n b    b is what a step of elimination leaves of a
 --   Left p a m n r c b       b is what elimination has left of a, at row r and column c
---   Settles D r              r says whether D holds
 use mathlib.Core.Path.{_≡_}
 use mathlib.Core.Logic.{_≢_, _↔_}
 use mathlib.Core.List.{List, []}
-use mathlib.Core.Bool.{Bool, true, false}
 use Prim.Native.Nat.{ℕ, _+_, _≤_, _<_}
 use lib.ListN.{getD}
 use Rattle.algebra.specs.Ring.{CommRing}
@@ -79,8 +77,3 @@ module _ (p : ℕ) where
     pub column-in : c ≤ n
     pub below : Below p b
     pub same : Dependent (K p) m n (grid p a) ↔ Rest (K p) m n r c (grid p b)
-
--- The answer r says whether D holds.
-pub record Settles (D : Type 0) (r : Bool) : Type 0 where
-  pub holds : r ≡ true → D
-  pub fails : r ≡ false → ¬ D

@@ -27,7 +27,8 @@ use Rattle.rules.specs.Inverse.{inverse}
 use Rattle.field.specs.Laws.{remainder-below, red-of-sub, red-of-mul, red-of-inverse}
 use Rattle.elimination.specs.Steps.{Rest, rest-start, rest-exchange, rest-zero-column, rest-clear, rest-no-rows, rest-no-columns}
 use Rattle.elimination.specs.Lists.{kept-set}
-use Rattle.elimination.specs.Grid.{at, grid, RowBelow, Below, Found, Exchanged, RowLess, Cleared, Stepped, Left, Settles}
+use Rattle.layout.specs.Settles.{Settles}
+use Rattle.elimination.specs.Grid.{at, grid, RowBelow, Below, Found, Exchanged, RowLess, Cleared, Stepped, Left}
 
 -- Where there are numbers below p, p is above 0.
 pub positive-of-row : (p : ℕ) (x : List ℕ) → RowBelow p x → 0 < p

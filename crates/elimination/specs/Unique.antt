@@ -1,19 +1,13 @@
 -- Each public function's contract leaves one result: two results that satisfy it are equal.
-use mathlib.Core.Path.{_≡_, refl}
+use mathlib.Core.Path.{_≡_}
 use mathlib.Core.List.{List}
-use mathlib.Core.Bool.{Bool, true, false}
+use mathlib.Core.Bool.{Bool}
 use Prim.Native.Nat.{ℕ}
 use Rattle.algebra.specs.Residue.{K}
 use Rattle.algebra.specs.Det.{det}
 use Rattle.algebra.specs.Dependence.{Dependent}
-use Rattle.elimination.specs.Grid.{grid, Settles}
-
--- Two answers that say whether the same holds are equal.
-settles-unique : {D : Type 0} (r s : Bool) → Settles D r → Settles D s → r ≡ s
-settles-unique true true hr hs = refl
-settles-unique true false hr hs = absurd (hs .fails refl (hr .holds refl))
-settles-unique false true hr hs = absurd (hr .fails refl (hs .holds refl))
-settles-unique false false hr hs = refl
+use Rattle.layout.specs.Settles.{Settles, settles-unique}
+use Rattle.elimination.specs.Grid.{grid}
 
 -- Two answers of `dependent` to one matrix are equal …
 pub dependent-unique : (a : List (List ℕ)) (p m n : ℕ) (r s : Bool) → Settles (Dependent (K p) m n (grid p a)) r → Settles (Dependent (K p) m n (grid p a)) s → r ≡ s

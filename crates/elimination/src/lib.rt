@@ -8,7 +8,8 @@ ghost use Rattle.algebra.specs.Residue.{K};
 ghost use Rattle.algebra.specs.Det.{det};
 ghost use Rattle.algebra.specs.Dependence.{Dependent};
 ghost use Rattle.rules.specs.Sizes.{most-rows};
-ghost use Rattle.elimination.specs.Grid.{at, grid, RowBelow, Below, Found, Exchanged, RowLess, Cleared, Stepped, Settles};
+ghost use Rattle.layout.specs.Settles.{Settles};
+ghost use Rattle.elimination.specs.Grid.{at, grid, RowBelow, Below, Found, Exchanged, RowLess, Cleared, Stepped};
 use layout::COLUMNS;
 use layout::ROWS;
 

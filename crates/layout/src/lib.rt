@@ -11,6 +11,11 @@ pub const ORDER: usize = 16;
 
 pub const LENGTH: usize = 17;
 
+// The prime, and the shift either way: at most so large.
+pub const PRIME: u32 = 2_147_483_647;
+
+pub const SHIFT: u32 = 1_000;
+
 // The columns of [P(0) C], the entries of a matrix, and the coefficients of P and of F.
 pub const COLUMNS: usize = 2 * ROWS;
 

@@ -6,7 +6,7 @@ use native.Mathlib.Nat.{mod-lt}
 use lib.ListN.{getD}
 use Rattle.determinant.specs.Square.{Polynomial}
 use Rattle.determinant.specs.Expansion.{asked-whole, whole-square}
-use Rattle.determinant.specs.Count.{count-tells}
+use Rattle.determinant.specs.Count.{count-settles}
 use Rattle.determinant.proofs.determinant_is_monomial.Statement.{statement}
 use Rattle.determinant.proofs.determinant_is_monomial.Tie as tie
 
@@ -44,7 +44,7 @@ returns c =
     let columns = c .before .before .before .before .before .all-columns in
     let l = c .before .before .determinant in
     let whole = whole-square (a .p) (a .m) (a .a .now) (columns .result) (b .pre .few-rows) (columns .ensures) in
-    count-tells (subst (λ f. Polynomial (a .p) (getD tops 0 0) f (l .result)) whole (l .ensures)) (c .is-monomial .ensures)
+    count-settles (subst (λ f. Polynomial (a .p) (getD tops 0 0) f (l .result)) whole (l .ensures)) (c .is-monomial .ensures)
 
 pub determinant-is-monomial-spec : {M : Type 1} → statement M
 determinant-is-monomial-spec =
