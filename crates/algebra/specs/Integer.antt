@@ -2,9 +2,14 @@
 --   Integers                 the ring
 --   ℤ-induction              induction by successors and predecessors
 --   *ℤ-assoc, *ℤ-+ℤ          the laws of the product beside those of lib.IntN
-use mathlib.Core.Path.{_≡_, sym, ap, ap₂, _∙_}
-use Prim.Native.Nat.{zero, suc}
-use lib.IntN.{ℤ, pos, negsuc, sucℤ, predℤ, negℤ, one, _+ℤ_, _*ℤ_, ℤ-set, +ℤ-assoc, +ℤ-comm, +ℤ-idl, +ℤ-idr, +ℤ-invr, negℤ-+ℤ, *ℤ-comm, *ℤ-one}
+--   natAbs-add, natAbs-neg   how far a sum and a negative are from 0
+use mathlib.Core.Path.{_≡_, refl, sym, ap, ap₂, _∙_}
+use mathlib.Core.Bool.{Bool, true, false, cond}
+use Prim.Native.Nat.{ℕ, zero, suc, _+_, _-_, _≤_, _<_}
+use native.Mathlib.Nat.{le-refl, le-trans}
+use native.Mathlib.Omega.{arith}
+use lib.Dec.{T, ltb, ltb→lt}
+use lib.IntN.{ℤ, pos, negsuc, natAbs, subℕ, sucℤ, predℤ, negℤ, one, _+ℤ_, _*ℤ_, ℤ-set, +ℤ-assoc, +ℤ-comm, +ℤ-idl, +ℤ-idr, +ℤ-invr, negℤ-+ℤ, *ℤ-comm, *ℤ-one}
 use lib.IntN.{zero-*ℤ, sucℤ-*ℤ, predℤ-*ℤ}
 use Rattle.algebra.specs.Ring.{CommRing}
 
@@ -69,3 +74,23 @@ Integers = record {
   mul-one = *ℤ-one;
   mul-add = *ℤ-+ℤ;
 }
+
+natAbs-subℕ : (a b : ℕ) → natAbs (subℕ a b) ≤ a + b
+natAbs-subℕ a b = go (ltb a b) (ltb→lt a b)
+  where
+    go : (c : Bool) → (T c → a < b) → natAbs (cond c (negsuc (b - suc a)) (pos (a - b))) ≤ a + b
+    go true less = omega (arith, less tt)
+    go false less = omega arith
+
+-- A sum is at most as far from 0 as its parts together …
+pub natAbs-add : (x y : ℤ) → natAbs (x +ℤ y) ≤ natAbs x + natAbs y
+natAbs-add (pos a) (pos b) = le-refl (a + b)
+natAbs-add (pos a) (negsuc b) = natAbs-subℕ a (suc b)
+natAbs-add (negsuc a) (pos b) = le-trans (natAbs-subℕ b (suc a)) (omega arith)
+natAbs-add (negsuc a) (negsuc b) = omega arith
+
+-- … and a negative as far as the number.
+pub natAbs-neg : (x : ℤ) → natAbs (negℤ x) ≡ natAbs x
+natAbs-neg (pos zero) = refl
+natAbs-neg (pos (suc n)) = refl
+natAbs-neg (negsuc n) = refl

@@ -129,9 +129,9 @@ module _ (s t lent : List ℕ) (r : ReadProblem) (e : r ≡ problem-value (read-
 -- WHAT IS ANSWERED
 
 -- The bytes needed are few.
-pub size-most : (m n : ℕ) → m ≤ most-rows → n ≤ most-rows → 4 * m * n ≤ 64
+pub evidence-most : (m n : ℕ) → m ≤ most-rows → n ≤ most-rows → 4 * m * n ≤ 64
 unfolding most-rows
-size-most m n hm hn = omega (arith, mul-le-mul-right n hm)
+evidence-most m n hm hn = omega (arith, mul-le-mul-right n hm)
 
 abbrev flat-of : ReadProblem → ReadAnswer → List (List ℕ)
 flat-of r x = flat-evidence (r .p) (x .entries) (r .f) (r .orders) (r .m) (r .n)

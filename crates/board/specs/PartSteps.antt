@@ -1,5 +1,5 @@
 -- Steps towards the part that a verdict points at.
---   size-most, evidence-most           the entries of a column, and those of `CE`, are few bytes
+--   size-most                the entries of a column are few bytes
 --   same-part                equal numbers make equal parts
 --   read-rows .. column-found          what the code's problem holds where the file is read, and the `FC` record by its numbers
 --   column-rows .. column-bytes        the same of a problem that has the column
@@ -34,10 +34,11 @@ use Rattle.rules.specs.RefusalPlaces.{claim-refused}
 use Rattle.rules.specs.VerdictLaws.{verdict-of-refusal, code-of-refusal, Judged, verdict-judged}
 use Rattle.rules.specs.PartLaws.{pointed-refused, pointed-claim, front-of-answer, pointed-front, refused-start, pointed-within}
 use Rattle.matrix.specs.Faults.{Ordered}
-use Rattle.matrix.specs.Sums.{sum-below-cong}
+use Rattle.rules.specs.WriterLaws.{sum-below-cong}
 use Rattle.reader.specs.declared.Problem.{Problem as ReadProblem}
 use Rattle.reader.specs.Arrays.{list-at}
 use Rattle.reader.specs.Values.{problem-value}
+use Rattle.board.specs.EvidenceSteps.{evidence-most}
 use Rattle.board.specs.Parts.{PartIn, HasColumn, ColumnPart, start-of}
 
 -- The entries of a column take no more than 256 bytes.
@@ -46,13 +47,6 @@ unfolding most-rows most-order
 size-most m d hm hd =
     let few : 4 * m ≤ 16 = omega arith in
     omega (arith, mul-le-mul-right d few)
-
--- Those of `CE` neither.
-pub evidence-most : (m n : ℕ) → m ≤ most-rows → n ≤ most-rows → 4 * m * n ≤ 64
-unfolding most-rows
-evidence-most m n hm hn =
-    let few : 4 * m ≤ 16 = omega arith in
-    omega (arith, mul-le-mul-right n few)
 
 -- Equal numbers make equal parts.
 pub same-part : {f f' s s' k k' : ℕ} → f ≡ f' → s ≡ s' → k ≡ k'

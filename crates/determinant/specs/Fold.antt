@@ -17,10 +17,6 @@ pub record Folded (c v r : ℕ) : Type 0 where
   pub small : r < 2 ^ 56
   pub same : (p : ℕ) → Carries p c → red p r ≡ red p v
 
--- A product of two numbers below 2^31 is below 2^62.
-pub product-small : {x y : ℕ} → x < 2 ^ 31 → y < 2 ^ 31 → x * y < 2 ^ 62
-product-small hx hy = omega (arith, mul-le-mul (le-pred-of-lt hx) (le-pred-of-lt hy))
-
 -- The high digits of a number of 64 bits, times a number below 2^31.
 pub high-small : {v c : ℕ} → v < 2 ^ 64 → c < 2 ^ 31 → v / 2 ^ 40 * c < 2 ^ 55
 high-small {v} {c} hv hc =

@@ -4,18 +4,16 @@
 --   SignedEntry              an array that stands for it
 use mathlib.Core.Path.{_≡_, refl, sym, ap, _∙_}
 use mathlib.Core.Logic.{_≢_}
-use mathlib.Core.Bool.{cond}
 use mathlib.Core.List.{List}
 use Prim.Native.Nat.{ℕ, zero, suc, _-_, _%_, _≤_, _<_}
 use native.Mathlib.Nat.{le-of-lt}
 use native.Mathlib.Omega.{arith}
 use lib.ListN.{getD}
-use borrow.Author.Tests.{lt-ltb}
 use Rattle.algebra.specs.Ring as Ring
 use Rattle.algebra.specs.Ring.{CommRing, sign}
 use Rattle.algebra.specs.Residue.{K, Residue, red, red-neg}
 use Rattle.rules.specs.Sizes.{most-length}
-use Rattle.layout.specs.Flat.{cell, cells, entry-place}
+use Rattle.layout.specs.Flat.{cell, cells, entry-place, cell-at}
 use Rattle.determinant.specs.Padded.{Each, Stands, Filled, filled-small, filled-stands}
 
 -- r is below p and is x with the sign of column j.
@@ -64,11 +62,6 @@ signed-odd {p} {j} {x} h nz ne = record {
       red-neg p x (le-of-lt h)
       ∙ sym (ap (λ u. K p ._⊗_ u (red p x)) (sign-odd (K p) j ne) ∙ Ring.neg-mul (K p) (K p .𝟙) (red p x) ∙ ap (λ u. K p .⊖_ u) (Ring.one-mul (K p) (red p x)));
 }
-
--- The coefficients below most-length stand in the array.
-cell-at : (a : List ℕ) (row column k : ℕ) → k < most-length → cell a row column k ≡ getD a (entry-place row column k) 0
-unfolding cell
-cell-at a row column k h = ap (λ b. cond b (getD a (entry-place row column k) 0) 0) (lt-ltb k most-length h)
 
 -- What the k-th number of a signed entry is.
 abbrev pub SignedCell : (p row column j : ℕ) → List ℕ → ℕ → ℕ → Type 0

@@ -1,3 +1,4 @@
 pub mod Flat
 pub mod Appended
 pub mod Settles
+pub mod Words

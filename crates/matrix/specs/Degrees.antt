@@ -21,10 +21,10 @@ use Rattle.algebra.specs.Integer.{Integers}
 use Rattle.algebra.specs.Degree.{coefficient, leading}
 use Rattle.rules.specs.Conditions.{maxZ, largest}
 use Rattle.rules.specs.Sizes.{most-rows, most-length, most-shift}
-use Rattle.layout.specs.Flat.{square-place, cell, cells}
-use Rattle.matrix.specs.Cells.{cell-below}
+use Rattle.layout.specs.Flat.{square-place, cell, cells, cell-below}
 use Rattle.matrix.specs.Fill.{array-of, array-of-at, array-of-below}
-use Rattle.matrix.specs.Signed.{natAbs-add, natAbs-minus, natAbs-largest, natAbs-sum}
+use Rattle.algebra.specs.Integer.{natAbs-add}
+use Rattle.matrix.specs.Signed.{natAbs-minus, natAbs-largest, natAbs-sum}
 
 -- "An entry of length 0 counts as degree 0."
 unfoldable pub length-degree : ℕ → ℤ

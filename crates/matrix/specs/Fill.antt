@@ -6,8 +6,8 @@ use mathlib.Core.Path.{_≡_, refl, sym, ap, subst, _∙_}
 use mathlib.Core.Bool.{Bool, true, false, cond}
 use mathlib.Core.Logic.{_≢_}
 use mathlib.Core.List.{List, []}
-use Prim.Native.Nat.{ℕ, zero, suc, _+_, _≤_, _<_}
-use native.Mathlib.Nat.{le-of-suc-le-suc, not-suc-le-zero, lt-of-lt-of-le}
+use Prim.Native.Nat.{ℕ, zero, _+_, _≤_, _<_}
+use native.Mathlib.Nat.{lt-of-lt-of-le}
 use native.Mathlib.Decide.{ℕ-discrete}
 use native.Mathlib.Omega.{arith}
 use borrow.Author.Tests.{lt-ltb, le-ltb, ltb-true, ltb-false}
@@ -15,6 +15,7 @@ use lib.Dec.{ltb}
 use lib.ListN.{length, getD, set, length-set}
 use lib.Seq.{ext-getD, getD-set-same, getD-set-other}
 use Rattle.rules.specs.Evidence.{table}
+use Rattle.rules.specs.EvidenceLaws.{length-table, getD-table, table-all}
 use Rattle.rules.specs.Sizes.{most-rows}
 
 -- The values below k, and z from there on.
@@ -35,18 +36,6 @@ zero-row = table (most-rows + most-rows) (λ j. 0)
 -- The array: m rows of n numbers, and zeros.
 unfoldable pub array-of : ℕ → ℕ → (ℕ → ℕ → ℕ) → List (List ℕ)
 array-of m n g = table most-rows (up-to zero-row m (rows-of n g))
-
--- What a table holds, and how much.
-pub getD-table : {A : Type 0} (n : ℕ) (g : ℕ → A) (i : ℕ) (d : A) → i < n → getD (table n g) i d ≡ g i
-unfolding table
-getD-table zero g i d h = absurd (not-suc-le-zero h)
-getD-table (suc n) g zero d h = refl
-getD-table (suc n) g (suc i) d h = getD-table n (λ i. g (suc i)) i d (le-of-suc-le-suc h)
-
-pub length-table : {A : Type 0} (n : ℕ) (g : ℕ → A) → length (table n g) ≡ n
-unfolding table
-length-table zero g = refl
-length-table (suc n) g = ap suc (length-table n (λ i. g (suc i)))
 
 -- The values below k and from k on.
 pub up-to-below : {A : Type 0} (z : A) (k : ℕ) (g : ℕ → A) (i : ℕ) → i < k → up-to z k g i ≡ g i
@@ -74,7 +63,7 @@ module _ {A : Type 0} (d z : A) (n : ℕ) (g : ℕ → A) where
   filled-none l e =
       record {
         size = ap length e ∙ length-table n (λ i. z);
-        holds = λ i h. ap (λ l. getD l i d) e ∙ getD-table n (λ i. z) i d h ∙ sym (up-to-above z 0 g i (omega arith));
+        holds = λ i h. ap (λ l. getD l i d) e ∙ getD-table n (λ i. z) d i h ∙ sym (up-to-above z 0 g i (omega arith));
       }
 
   -- … a store at k fills in one more …
@@ -95,7 +84,7 @@ module _ {A : Type 0} (d z : A) (n : ℕ) (g : ℕ → A) where
   pub filled-table : (k : ℕ) (l : List A) → Filled d z n k g l → l ≡ table n (up-to z k g)
   filled-table k l f =
       ext-getD d l (table n (up-to z k g)) (f .size ∙ sym (length-table n (up-to z k g)))
-      (λ i h. let b : i < n = subst (λ n. i < n) (f .size) h in f .holds i b ∙ sym (getD-table n (up-to z k g) i d b))
+      (λ i h. let b : i < n = subst (λ n. i < n) (f .size) h in f .holds i b ∙ sym (getD-table n (up-to z k g) d i b))
 
 -- A row of which k numbers are filled in, and the rows of which k are.
 abbrev pub RowFilled : ℕ → (ℕ → ℕ) → List ℕ → Type 0
@@ -119,17 +108,11 @@ pub array-of-at : (m n : ℕ) (g : ℕ → ℕ → ℕ) (i j : ℕ) → i < m �
 unfolding array-of row-of
 array-of-at m n g i j hi hj hm hn =
     ap (λ l. getD l j 0)
-    (getD-table most-rows (up-to zero-row m (rows-of n g)) i [] (lt-of-lt-of-le hi hm) ∙ up-to-below zero-row m (rows-of n g) i hi)
-    ∙ getD-table (most-rows + most-rows) (up-to 0 n (g i)) j 0 (lt-of-lt-of-le hj hn)
+    (getD-table most-rows (up-to zero-row m (rows-of n g)) [] i (lt-of-lt-of-le hi hm) ∙ up-to-below zero-row m (rows-of n g) i hi)
+    ∙ getD-table (most-rows + most-rows) (up-to 0 n (g i)) 0 j (lt-of-lt-of-le hj hn)
     ∙ up-to-below 0 n (g i) j hj
 
 -- What every value has, and the default, is had by whatever is read.
-getD-table-all : {A : Type 0} (P : A → Type 0) (n : ℕ) (g : ℕ → A) (d : A) → P d → ((i : ℕ) → P (g i)) → (i : ℕ) → P (getD (table n g) i d)
-unfolding table
-getD-table-all P zero g d pd pg i = pd
-getD-table-all P (suc n) g d pd pg zero = pg zero
-getD-table-all P (suc n) g d pd pg (suc i) = getD-table-all P n (λ i. g (suc i)) d pd (λ i. pg (suc i)) i
-
 up-to-all : {A : Type 0} (P : A → Type 0) (z : A) (k : ℕ) (g : ℕ → A) → P z → ((i : ℕ) → P (g i)) → (i : ℕ) → P (up-to z k g i)
 up-to-all P z k g pz pg i = elim (ltb i k) as (λ b. P (cond b (g i) z)) [ true ↦ pg i | false ↦ pz ]
 
@@ -137,7 +120,7 @@ up-to-all P z k g pz pg i = elim (ltb i k) as (λ b. P (cond b (g i) z)) [ true 
 pub array-of-below : (p m n : ℕ) (g : ℕ → ℕ → ℕ) → 0 < p → ((i j : ℕ) → g i j < p) → (i j : ℕ) → getD (getD (array-of m n g) i []) j 0 < p
 unfolding array-of row-of zero-row
 array-of-below p m n g zero-below below =
-    getD-table-all (λ l. (j : ℕ) → getD l j 0 < p) most-rows (up-to zero-row m (rows-of n g)) [] (λ j. zero-below)
+    table-all most-rows (up-to zero-row m (rows-of n g)) [] (λ l. (j : ℕ) → getD l j 0 < p) (λ j. zero-below)
     (up-to-all (λ l. (j : ℕ) → getD l j 0 < p) zero-row m (rows-of n g)
-    (getD-table-all (λ x. x < p) (most-rows + most-rows) (λ j. 0) 0 zero-below (λ j. zero-below))
-    (λ i. getD-table-all (λ x. x < p) (most-rows + most-rows) (up-to 0 n (g i)) 0 zero-below (up-to-all (λ x. x < p) 0 n (g i) zero-below (below i))))
+    (table-all (most-rows + most-rows) (λ j. 0) 0 (λ x. x < p) zero-below (λ j. zero-below))
+    (λ i. table-all (most-rows + most-rows) (up-to 0 n (g i)) 0 (λ x. x < p) zero-below (up-to-all (λ x. x < p) 0 n (g i) zero-below (below i))))

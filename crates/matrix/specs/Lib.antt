@@ -1,6 +1,5 @@
 pub mod Signed
 pub mod Fill
-pub mod Cells
 pub mod Degrees
 pub mod Sums
 pub mod Total

@@ -20,9 +20,9 @@ use Rattle.algebra.specs.Degree.{coefficient, coefficient-sum}
 use Rattle.algebra.specs.Matrix.{vmul, mmul}
 use Rattle.rules.specs.Conditions.{sum-below}
 use Rattle.rules.specs.Sizes.{largest-prime, most-rows, most-order, most-length}
-use Rattle.layout.specs.Flat.{entry-place, column-place, square-place, cell, column-cell, cells, column-cells}
-use Rattle.matrix.specs.Cells.{cell-at, column-cell-at, column-cell-past}
-use Rattle.matrix.specs.Sums.{sum-below-cong, sum-below-last, sum-window, red-sum}
+use Rattle.layout.specs.Flat.{entry-place, column-place, square-place, cell, column-cell, cells, column-cells, cell-at, column-cell-at, column-cell-past}
+use Rattle.rules.specs.WriterLaws.{sum-below-cong}
+use Rattle.matrix.specs.Sums.{sum-below-last, sum-window, red-sum}
 
 -- How many coefficients the flat arrays hold.
 unfoldable pub entry-coefficients : ℕ

@@ -10,8 +10,7 @@ use lib.ListN.{getD}
 use Rattle.algebra.specs.Residue.{red}
 use Rattle.algebra.specs.Matrix.{beside, beside-left, beside-right}
 use Rattle.rules.specs.Sizes.{most-rows}
-use Rattle.layout.specs.Flat.{square-place, cell, cells}
-use Rattle.matrix.specs.Cells.{cell-below}
+use Rattle.layout.specs.Flat.{square-place, cell, cells, cell-below}
 use Rattle.matrix.specs.Fill.{array-of, array-of-at, array-of-below}
 
 -- "the rows of [P(0) C]. Its rows have m + n numbers."

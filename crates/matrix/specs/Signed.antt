@@ -4,12 +4,10 @@ use mathlib.Core.Bool.{Bool, true, false, cond}
 use Prim.Native.Nat.{ℕ, zero, suc, _+_, _-_, _*_, _≤_, _<_, suc-le-suc}
 use native.Mathlib.Nat.{le-refl, le-trans, zero-lt-suc, suc-mul}
 use native.Mathlib.Omega.{arith}
-use borrow.Author.Tests.{ltb-true}
-use lib.Dec.{ltb}
-use lib.IntN.{ℤ, pos, negsuc, negℤ, natAbs, subℕ, _+ℤ_, _-ℤ_}
+use lib.IntN.{ℤ, pos, negsuc, negℤ, natAbs, _-ℤ_}
 use lib.Signed.{mag, leZ}
 use Rattle.algebra.specs.Sum.{sum}
-use Rattle.algebra.specs.Integer.{Integers}
+use Rattle.algebra.specs.Integer.{Integers, natAbs-add, natAbs-neg}
 use Rattle.rules.specs.Conditions.{maxZ, largest}
 
 -- What is picked has what both have.
@@ -17,25 +15,7 @@ picked : {A : Type 0} (P : A → Type 0) (b : Bool) {x y : A} → (b ≡ true �
 picked P true hx hy = hx refl
 picked P false hx hy = hy refl
 
-natAbs-sub : (a b : ℕ) → natAbs (subℕ a b) ≤ a + b
-natAbs-sub a b =
-    picked (λ z. natAbs z ≤ a + b) (ltb a b)
-    (λ t. let h : a < b = ltb-true a b t in omega arith)
-    (λ t. omega arith)
-
--- A sum is at most as large as its parts together …
-pub natAbs-add : (x y : ℤ) → natAbs (x +ℤ y) ≤ natAbs x + natAbs y
-natAbs-add (pos a) (pos b) = le-refl _
-natAbs-add (pos a) (negsuc b) = natAbs-sub a (suc b)
-natAbs-add (negsuc a) (pos b) = le-trans (natAbs-sub b (suc a)) (omega arith)
-natAbs-add (negsuc a) (negsuc b) = omega arith
-
-pub natAbs-neg : (x : ℤ) → natAbs (negℤ x) ≡ natAbs x
-natAbs-neg (pos zero) = refl
-natAbs-neg (pos (suc n)) = refl
-natAbs-neg (negsuc n) = refl
-
--- … and so is a difference.
+-- A difference is at most as large as its parts together.
 pub natAbs-minus : (x y : ℤ) → natAbs (x -ℤ y) ≤ natAbs x + natAbs y
 natAbs-minus x y = rw (natAbs-neg y) at (natAbs-add x (negℤ y))
 

@@ -4,19 +4,12 @@ use Prim.Native.Nat.{ℕ, zero, suc, _+_, _-_, _≤_, _<_, zero-le, suc-le-suc}
 use native.Mathlib.Nat.{le-of-suc-le-suc, not-suc-le-zero, zero-lt-suc, zero-add, suc-add, add-comm, add-assoc}
 use native.Mathlib.Numerals.{add-one}
 use native.Mathlib.Omega.{arith}
-use Rattle.algebra.specs.Ring.{CommRing}
 use Rattle.algebra.specs.Residue.{K, red, red-add}
 use Rattle.algebra.specs.Sum.{sum}
 use Rattle.rules.specs.Conditions.{sum-below}
+use Rattle.rules.specs.WriterLaws.{sum-below-cong}
 
--- A sum depends on its first n terms alone …
-pub sum-below-cong : (n : ℕ) (f g : ℕ → ℕ) → ((i : ℕ) → i < n → f i ≡ g i) → sum-below n f ≡ sum-below n g
-unfolding sum-below
-sum-below-cong zero f g h = refl
-sum-below-cong (suc n) f g h =
-    ap₂ _+_ (h zero (zero-lt-suc n)) (sum-below-cong n (λ i. f (suc i)) (λ i. g (suc i)) (λ i b. h (suc i) (suc-le-suc b)))
-
--- … its last term stands apart …
+-- A sum's last term stands apart.
 pub sum-below-last : (n : ℕ) (f : ℕ → ℕ) → sum-below (n + 1) f ≡ sum-below n f + f n
 unfolding sum-below
 sum-below-last zero f = add-comm (f zero) 0

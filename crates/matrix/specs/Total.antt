@@ -7,11 +7,8 @@
 use mathlib.Core.Path.{_≡_, sym, ap, _∙_}
 use mathlib.Core.List.{List}
 use Prim.Native.Nat.{ℕ, _+_, _-_, _*_, _/_, _%_, _^_, _≤_, _<_}
-use native.Mathlib.Nat.{le-of-lt, lt-of-le-of-lt, mul-le-mul-left, mul-lt-mul-of-pos-right}
-use lib.Dec.{lit<}
 use native.Mathlib.Omega.{arith}
 use lib.ListN.{getD}
-use Rattle.algebra.specs.Ring.{CommRing}
 use Rattle.algebra.specs.Residue.{K, red, red-add, red-mul, red-mod, red-eq}
 use Rattle.rules.specs.Sizes.{largest-prime}
 
@@ -38,10 +35,6 @@ pub record Summed (n s high low : ℕ) : Type 0 where
 pub below-small : (p : ℕ) (a : List ℕ) → p ≤ largest-prime → ((k : ℕ) → getD a k 0 < p) → Small a
 unfolding largest-prime
 below-small p a most below k = omega (arith, below k)
-
--- Two numbers of 31 bits have a product of 62.
-pub small-product : (x y : ℕ) → x < 2 ^ 31 → y < 2 ^ 31 → x * y < 2 ^ 62
-small-product x y hx hy = lt-of-le-of-lt (mul-le-mul-left x (le-of-lt hy)) (mul-lt-mul-of-pos-right hx (lit< tt))
 
 -- No product, and one more, cut in two at 2^40.
 pub grown-none : (high low : ℕ) → Grown 0 high low 0 high low

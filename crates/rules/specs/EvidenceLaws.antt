@@ -1,5 +1,5 @@
 -- The evidence made, and the buffer lent for it.
---   length-table, getD-table           the list of f 0, …, f (n − 1)
+--   length-table, getD-table, table-all        the list of f 0, …, f (n − 1)
 --   evidence-length, evidence-row-length, evidence-number      the matrix made has m rows of n numbers, each the coefficient at the order
 --   length-evidence          its record has 2 + 4 × m × n bytes
 --   evidence-valid, evidence-read      behind the basis it is read back
@@ -52,7 +52,7 @@ getD-table (suc n) f d zero h = refl
 getD-table (suc n) f d (suc i) h = getD-table n (λ i. f (suc i)) d i (le-of-suc-le-suc h)
 
 -- What holds of the default and of each f i holds of everything that is looked up.
-table-all : {A : Type 0} (n : ℕ) (f : ℕ → A) (d : A) (Q : A → Type 0) → Q d → ((i : ℕ) → Q (f i)) → (i : ℕ) → Q (getD (table n f) i d)
+pub table-all : {A : Type 0} (n : ℕ) (f : ℕ → A) (d : A) (Q : A → Type 0) → Q d → ((i : ℕ) → Q (f i)) → (i : ℕ) → Q (getD (table n f) i d)
 table-all n f d Q v w i = by-cases (decLe (suc i) n)
     (λ h. subst Q (sym (getD-table n f d i h)) (w i))
     (λ h. subst Q (sym (List·getD-eq-default (table n f) d (omega (arith, length-table n f)))) v)

@@ -7,13 +7,13 @@ use mathlib.Core.Bool.{Bool, true, false}
 use mathlib.Core.List.{List, _++_}
 use mathlib.Core.Option.{Option, none, some}
 use Prim.Native.Nat.{ℕ, zero, suc, pred, _+_, _-_, _*_, _%_, _^_, _≤_, _<_, zero-le}
-use native.Mathlib.Nat.{le-refl, le-trans, mul-le-mul, add-mul-mod-self-left, mod-eq-of-lt, eq-of-mul-eq-mul-left}
+use native.Mathlib.Nat.{le-refl, mul-le-mul, add-mul-mod-self-left, mod-eq-of-lt, eq-of-mul-eq-mul-left}
 use native.Mathlib.Omega.{arith}
-use lib.Dec.{ltb, leb, ltb→lt}
-use lib.IntN.{ℤ, pos, negsuc, natAbs, negℤ, subℕ, _+ℤ_}
+use lib.Dec.{leb}
+use lib.IntN.{ℤ, pos, negsuc, natAbs, negℤ, _+ℤ_}
 use lib.ListN.{length, drop}
 use lib.Signed.{leZ}
-use Rattle.algebra.specs.Integer.{Integers}
+use Rattle.algebra.specs.Integer.{Integers, natAbs-add, natAbs-neg}
 use Rattle.algebra.specs.Sum.{sum}
 use Rattle.rules.specs.Sizes.{most-rows, most-order, most-shift, most-length}
 use Rattle.rules.specs.Reader.{Result, Refusal, refused, got}
@@ -64,20 +64,6 @@ packed-injective v w hv hw e =
     λ i. record { code = code i; file = file i; number = number i; at = at i }
 
 -- SIZES OF INTEGERS
-
-natAbs-subℕ : (a b : ℕ) → natAbs (subℕ a b) ≤ a + b
-natAbs-subℕ a b = cond-cases (ltb a b) (negsuc (b - suc a)) (pos (a - b)) (λ z. natAbs z ≤ a + b) (λ t. omega (arith, ltb→lt a b t)) (λ t. omega arith)
-
-natAbs-add : (x y : ℤ) → natAbs (x +ℤ y) ≤ natAbs x + natAbs y
-natAbs-add (pos a) (pos b) = le-refl (a + b)
-natAbs-add (pos a) (negsuc b) = natAbs-subℕ a (suc b)
-natAbs-add (negsuc a) (pos b) = le-trans (natAbs-subℕ b (suc a)) (omega arith)
-natAbs-add (negsuc a) (negsuc b) = omega arith
-
-natAbs-neg : (x : ℤ) → natAbs (negℤ x) ≡ natAbs x
-natAbs-neg (pos zero) = refl
-natAbs-neg (pos (suc n)) = refl
-natAbs-neg (negsuc n) = refl
 
 natAbs-sum : (n B : ℕ) (f : ℕ → ℤ) → ((i : ℕ) → natAbs (f i) ≤ B) → natAbs (sum Integers n f) ≤ n * B
 unfolding sum

@@ -6,7 +6,7 @@ use native.Mathlib.Omega.{arith}
 use denote.Ref.{now}
 use Rattle.rules.specs.Sizes.{most-rows}
 use Rattle.rules.specs.Evidence.{Made}
-use Rattle.board.specs.EvidenceSteps.{BothRead, both-read, problem-unread, read-sizes, answer-unread, both-factors, both-ordered, both-sizes, size-most, room-lacks, evidence-ends, evidence-put}
+use Rattle.board.specs.EvidenceSteps.{BothRead, both-read, problem-unread, read-sizes, answer-unread, both-factors, both-ordered, both-sizes, evidence-most, room-lacks, evidence-ends, evidence-put}
 use Rattle.board.proofs.evidence_files.Statement.{statement}
 use Rattle.board.proofs.evidence_files.Tie as tie
 use Rattle.evidence.proofs.put_evidence.Reads as put-evidence-reads
@@ -53,7 +53,7 @@ sizes c =
     both-sizes (now (a .problem)) (now (a .answer)) (now (a .buffer)) (c .before .before .before .read-problem .result) (c .before .read-answer .result) (both c)
 
 small : (c : tie.Else2) → 4 * c .before .before .before .read-problem .result .m * c .before .before .before .read-problem .result .n ≤ 64
-small c = size-most (c .before .before .before .read-problem .result .m) (c .before .before .before .read-problem .result .n) (sizes c .0) (sizes c .1)
+small c = evidence-most (c .before .before .before .read-problem .result .m) (c .before .before .before .read-problem .result .n) (sizes c .0) (sizes c .1)
 
 mul-needed : tie.Need-mul-needed
 unfolding most-rows

@@ -1,6 +1,6 @@
 use native.Mathlib.Omega.{arith}
 use mathlib.Core.Path.{refl}
-use Rattle.determinant.specs.Fold.{product-small}
+use Rattle.layout.specs.Words.{product-small}
 use Rattle.determinant.proofs.product.Statement.{statement}
 use Rattle.determinant.proofs.product.Tie as tie
 

@@ -6,8 +6,7 @@ use lib.ListN.{getD}
 use mir.Syntax.{w32, w64}
 use mir.Val.{toZ, ofZ}
 use Rattle.rules.specs.Sizes.{most-rows, most-length}
-use Rattle.layout.specs.Flat.{cell, entry-place}
-use Rattle.matrix.specs.Cells.{cell-at, cell-past}
+use Rattle.layout.specs.Flat.{cell, entry-place, cell-at, cell-past}
 use Rattle.matrix.specs.Degrees.{at-power, at-power-negative, at-power-natAbs}
 use Rattle.matrix.proofs.Signed.{back, below-zero-back, cast-fits}
 use Rattle.matrix.proofs.degree.entry_at.Statement.{statement}

@@ -1,5 +1,5 @@
 use lib.IntN.{_+ℤ_}
-use Rattle.matrix.specs.Signed.{natAbs-add}
+use Rattle.algebra.specs.Integer.{natAbs-add}
 use Rattle.matrix.proofs.Signed.{binary-fits, binary-value}
 use Rattle.matrix.proofs.degree.plus.Statement.{statement}
 use Rattle.matrix.proofs.degree.plus.Tie as tie

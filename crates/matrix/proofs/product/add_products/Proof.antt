@@ -4,7 +4,8 @@ use borrow.Author.Needs.{needs}
 use Prim.Native.Nat.{_+_, _*_, _-_, _^_, _≤_, _<_}
 use Rattle.rules.specs.Conditions.{sum-below}
 use Rattle.rules.specs.Sizes.{most-rows, most-order, most-length}
-use Rattle.matrix.specs.Total.{Grown, grown-none, grown-more, small-product}
+use Rattle.layout.specs.Words.{product-small}
+use Rattle.matrix.specs.Total.{Grown, grown-none, grown-more}
 use Rattle.matrix.specs.Product.{dot, dot-more, entry-coefficients, column-coefficients}
 use Rattle.matrix.proofs.product.add_products.Statement.{statement}
 use Rattle.matrix.proofs.product.add_products.Tie as tie
@@ -54,7 +55,7 @@ small : (c : tie.After-wide2 Inv-loop μ-loop) → c .before .before .wide .resu
 small c =
     let s = c .before .before .before .before .before .before in
     let t = c .before .before .before .before .before .loop .t in
-    small-product (c .before .before .wide .result) (c .wide2 .result)
+    product-small {x = c .before .before .wide .result} {y = c .wide2 .result}
     (subst (λ n. n < 2 ^ 31) (sym (c .before .before .wide .ensures)) (s .pre .0 .0 (s .args .x + t)))
     (subst (λ n. n < 2 ^ 31) (sym (c .wide2 .ensures)) (s .pre .0 .1 (s .args .y - t)))
 

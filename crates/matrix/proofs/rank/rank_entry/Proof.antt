@@ -3,8 +3,7 @@ use mathlib.Core.Path.{sym, ap, _∙_}
 use native.Mathlib.Omega.{arith}
 use lib.ListN.{getD}
 use Rattle.rules.specs.Sizes.{most-rows, most-length}
-use Rattle.layout.specs.Flat.{entry-place, square-place}
-use Rattle.matrix.specs.Cells.{cell-at}
+use Rattle.layout.specs.Flat.{entry-place, square-place, cell-at}
 use Rattle.matrix.specs.Rank.{rank-number-left, rank-number-right}
 use Rattle.matrix.proofs.rank.rank_entry.Statement.{statement}
 use Rattle.matrix.proofs.rank.rank_entry.Tie as tie
