@@ -9,6 +9,7 @@ use layout::LENGTH;
 use layout::ROWS;
 use layout::SQUARE;
 use layout::entry_place;
+use layout::square_place;
 ghost use mathlib.Core.Path.{_≡_};
 ghost use Prim.Native.Nat.{pred, max, _+_, _*_, _^_, _≤_, _<_};
 ghost use lib.Dec.{eqb};
@@ -181,7 +182,7 @@ fn entry_length(lengths: &[usize; SQUARE], i: usize, j: usize) -> usize
     requires { ⌜ (i < most-rows) × (j < most-rows) ⌝ }
     ensures { λ r. ⌜ r ≡ length-at (now (lengths .entry)) i j ⌝ }
 {
-    lengths[i * ROWS + j]
+    lengths[square_place(i, j)]
 }
 
 // The k-th of the numbers other than j.
@@ -331,7 +332,7 @@ fn is_monomial(l: &[u32; CAPACITY], top: usize) -> bool
 }
 
 // a: the coefficients of an m × m matrix of polynomials modulo p, each below p, an entry's coefficients followed by zeros. lengths: how
-// many coefficients each entry has, at i * ROWS + j. p: from 2 to the largest prime that is allowed.
+// many coefficients each entry has. p: from 2 to the largest prime that is allowed.
 // Whether the determinant of the matrix is a nonzero constant times a power of X.
 pub fn determinant_is_monomial(
     a: &[u32; ENTRY_COEFFICIENTS],

@@ -2,7 +2,7 @@
 ghost use mathlib.Core.Path.{_≡_};
 ghost use Prim.Native.Nat.{_<_};
 ghost use Rattle.rules.specs.Sizes.{most-rows, most-order, most-length};
-ghost use Rattle.layout.specs.Flat.{entry-place, column-place};
+ghost use Rattle.layout.specs.Flat.{square-place, entry-place, column-place};
 
 // Rows and columns, the order of a column, the coefficients of an entry: at most so many.
 pub const ROWS: usize = 4;
@@ -24,6 +24,14 @@ pub const SQUARE: usize = ROWS * ROWS;
 pub const ENTRY_COEFFICIENTS: usize = SQUARE * LENGTH;
 
 pub const COLUMN_COEFFICIENTS: usize = SQUARE * ORDER;
+
+// Where the number of row i and column j stands in an array with one number for each entry.
+pub fn square_place(i: usize, j: usize) -> usize
+    requires { ⌜ (i < most-rows) × (j < most-rows) ⌝ }
+    ensures { λ r. ⌜ r ≡ square-place i j ⌝ }
+{
+    i * ROWS + j
+}
 
 // Where the coefficient at power k of P's entry in row i and column j stands.
 pub fn entry_place(i: usize, j: usize, k: usize) -> usize

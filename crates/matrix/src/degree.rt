@@ -5,7 +5,7 @@ ghost use lib.IntN.{natAbs, _+ℤ_, _-ℤ_};
 ghost use Rattle.rules.specs.Conditions.{maxZ};
 ghost use Rattle.rules.specs.Verdict.{natural};
 ghost use Rattle.rules.specs.Sizes.{most-rows, most-length};
-ghost use Rattle.layout.specs.Flat.{square-place, cell};
+ghost use Rattle.layout.specs.Flat.{cell};
 ghost use Rattle.matrix.specs.Degrees.{length-degree, entry-term, flat-row-degree, flat-degree-sum, at-power, leading-number, Sized};
 ghost use Rattle.matrix.specs.Fill.{row-of, array-of};
 use layout::COLUMNS;
@@ -14,6 +14,7 @@ use layout::LENGTH;
 use layout::ROWS;
 use layout::SQUARE;
 use layout::entry_place;
+use layout::square_place;
 
 // length: the number of coefficients of an entry.
 // Its degree: one less, and 0 for the entry 0.
@@ -56,15 +57,6 @@ pub fn not_negative(x: i32) -> u32
     ensures { λ r. ⌜ r ≡ natural x ⌝ }
 {
     if x < 0 { 0 } else { x as u32 }
-}
-
-// i and j: a row and a column.
-// Where their number stands in an array with one number for each entry.
-pub(crate) fn square_place(i: usize, j: usize) -> usize
-    requires { ⌜ (i < most-rows) × (j < most-rows) ⌝ }
-    ensures { λ r. ⌜ r ≡ square-place i j ⌝ }
-{
-    i * ROWS + j
 }
 
 // lengths, shifts: of the entries of P and of its columns. i and j: a row and a column.

@@ -8,7 +8,6 @@ ghost use Rattle.rules.specs.Sizes.{most-rows};
 ghost use Rattle.matrix.specs.Product.{Factors, flat-product};
 ghost use Rattle.matrix.specs.Faults.{Ordered, flat-low-fault, flat-order-fault, flat-fault, place-of};
 ghost use Rattle.matrix.specs.Search.{First};
-use crate::degree::square_place;
 use crate::product::coefficient;
 use crate::product::fold_of;
 use crate::product::product_coefficient;
@@ -16,6 +15,7 @@ use layout::COLUMN_COEFFICIENTS;
 use layout::ENTRY_COEFFICIENTS;
 use layout::ROWS;
 use layout::SQUARE;
+use layout::square_place;
 
 // A row and a column, or none.
 pub enum Place {

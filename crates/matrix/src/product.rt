@@ -4,13 +4,13 @@ ghost use Prim.Native.Nat.{_+_, _*_, _-_, _%_, _^_, _<_, _≤_};
 ghost use Rattle.rules.specs.Sizes.{most-rows, most-order, most-length};
 ghost use Rattle.matrix.specs.Total.{Small, Grown, Within, Summed};
 ghost use Rattle.matrix.specs.Product.{Padded, Factors, dot, first-power, powers, pair-number, product-number, flat-product, entry-coefficients, column-coefficients};
-use crate::degree::square_place;
 use layout::COLUMN_COEFFICIENTS;
 use layout::ENTRY_COEFFICIENTS;
 use layout::ORDER;
 use layout::SQUARE;
 use layout::column_place;
 use layout::entry_place;
+use layout::square_place;
 
 // Where a product of two coefficients is cut in two, so that sums of the parts fit: 2^40.
 const CUT: u64 = 1099511627776;

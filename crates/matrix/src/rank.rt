@@ -4,12 +4,12 @@ ghost use Prim.Native.Nat.{_+_, _<_, _≤_};
 ghost use Rattle.rules.specs.Sizes.{most-rows};
 ghost use Rattle.matrix.specs.Fill.{row-of, array-of};
 ghost use Rattle.matrix.specs.Rank.{rank-number};
-use crate::degree::square_place;
 use layout::COLUMNS;
 use layout::ENTRY_COEFFICIENTS;
 use layout::ROWS;
 use layout::SQUARE;
 use layout::entry_place;
+use layout::square_place;
 
 // a, c, m: of P and C. i, j: a row and a column of [P(0) C].
 // The number there.

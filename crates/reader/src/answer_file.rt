@@ -22,20 +22,12 @@ use cursor::place::finish;
 use cursor::place::opened;
 use layout::LENGTH;
 use layout::ROWS;
+use layout::square_place;
 
 // The marks, low byte first.
 const PE: u32 = 0x50 + 256 * 0x45;
 
 const CE: u32 = 0x43 + 256 * 0x45;
-
-// i and j: a row and a column of a square.
-// Their place, row by row.
-fn cell_at(i: usize, j: usize) -> usize
-    requires { ⌜ (i < most-rows) × (j < most-rows) ⌝ }
-    ensures { λ r. ⌜ r ≡ i * most-rows + j ⌝ }
-{
-    i * ROWS + j
-}
 
 // s: the file. q: the place after the mark of a `PE` record. i and j: the row and the column that are due.
 // The count of its coefficients and the place after it, or the refusal.
@@ -72,7 +64,7 @@ fn read_entry(
             Field::Off(x) => Going::Off(x),
             Field::Value(l, q2) => {
                 let count = l as usize;
-                let cell = cell_at(i, j);
+                let cell = square_place(i, j);
                 lengths[cell] = count;
                 closed(run(s, q2, p, count, count, entries, cell * LENGTH))
             }

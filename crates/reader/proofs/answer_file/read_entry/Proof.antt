@@ -9,6 +9,7 @@ use Rattle.rules.specs.Sizes.{most-rows, most-length}
 use Rattle.rules.specs.Reader.{each, Place, field}
 use Rattle.rules.specs.Files.{PE, coefficient-test}
 use Rattle.rules.specs.ReaderLaws.{opening}
+use Rattle.layout.specs.Flat.{square-place}
 use Rattle.cursor.specs.declared.fields.Test.the-variants.{Mark}
 use Rattle.reader.specs.Flat.{put-entry, run-into, cells, entry-cells}
 use Rattle.reader.specs.Storing.{into}
@@ -51,35 +52,35 @@ enum-known-l c = search needs
 cast-count : tie.Need-cast-count
 cast-count c = search needs
 
-cell-at-requires : tie.Need-cell-at-requires
-cell-at-requires c κs = search needs
+square-place-requires : tie.Need-square-place-requires
+square-place-requires c κs = search needs
 
 mul-lengths : tie.Need-mul-lengths
-unfolding most-rows cells
+unfolding square-place most-rows cells
 mul-lengths c =
     let c₁₃ = c .before .before .before .before .before .before .before .before .before .before .before .before .before in
-    omega (arith, c .cell-at .ensures, c₁₃ .pre)
+    omega (arith, c .square-place .ensures, c₁₃ .pre)
 
 slice-write-lengths : tie.Need-slice-write-lengths
-unfolding most-rows cells
+unfolding square-place most-rows cells
 slice-write-lengths c =
     let c₁₃ = c .before .before .before .before .before .before .before .before .before .before .before .before .before in
-    omega (arith, c .cell-at .ensures, c₁₃ .pre)
+    omega (arith, c .square-place .ensures, c₁₃ .pre)
 
 mul-run : tie.Need-mul-run
-unfolding most-rows
+unfolding square-place most-rows
 mul-run c =
     let c₁₄ = c .before .before .before .before .before .before .before .before .before .before .before .before .before .before in
-    omega (arith, c .before .cell-at .ensures, c₁₄ .pre)
+    omega (arith, c .before .square-place .ensures, c₁₄ .pre)
 
 run-requires : tie.Need-run-requires
-unfolding most-rows most-length cells entry-cells
+unfolding square-place most-rows most-length cells entry-cells
 run-requires c κs =
     let c₅ = c .before .before .before .before .before in
     let c₁₄ = c₅ .before .before .before .before .before .before .before .before .before in
     let args = c₁₄ .args in
     omega
-    (arith, c .before .cell-at .ensures, c₁₄ .pre, moved-got (count-moves (args .i) (args .j)) _ _ (gives (c₅ .entry-count .ensures) (c .before .before .before .l .given .1)) .0)
+    (arith, c .before .square-place .ensures, c₁₄ .pre, moved-got (count-moves (args .i) (args .j)) _ _ (gives (c₅ .entry-count .ensures) (c .before .before .before .l .given .1)) .0)
 
 -- What `run` gives and leaves is the rules' entry, stored in its place.
 run-read : (c : tie.After-run)
@@ -87,7 +88,7 @@ run-read : (c : tie.After-run)
     let c₁₅ = c₄ .before .before .before .before .before .before .before .before .before .before .before in
     let args = c₁₅ .args in
     going (c .run .result) (c .run .last .1 .1 .1 .1 .1 .0) ≡ into (run-into ((args .i * most-rows + args .j) * most-length) (args .entries .now)) (each (c₄ .l .given .0 .0) (λ k. field 4 (coefficient-test (args .p) (c₄ .l .given .0 .0) k)) (args .s .now) (place (c₄ .l .given .0 .1 .0)))
-unfolding most-length
+unfolding square-place most-length
 run-read c =
     let c₄ = c .before .before .before .before in
     let c₁₅ = c₄ .before .before .before .before .before .before .before .before .before .before .before in
@@ -95,7 +96,7 @@ run-read c =
     c .run .ensures
     ∙ ap
     (λ (k : ℕ). into (run-into (k * most-length) (args .entries .now)) (each (c₄ .l .given .0 .0) (λ k. field 4 (coefficient-test (args .p) (c₄ .l .given .0 .0) k)) (args .s .now) (place (c₄ .l .given .0 .1 .0))))
-    (c .before .before .cell-at .ensures)
+    (c .before .before .square-place .ensures)
 
 -- And with its length beside it.
 entry-read : (c : tie.After-run)
@@ -103,15 +104,16 @@ entry-read : (c : tie.After-run)
     let c₁₅ = c₄ .before .before .before .before .before .before .before .before .before .before .before in
     let args = c₁₅ .args in
     going {A = List ℕ × List ℕ} (c .run .result)
-    (set (args .lengths .now) (c .before .before .cell-at .result) (c₄ .l .given .0 .0), c .run .last .1 .1 .1 .1 .1 .0)
+    (set (args .lengths .now) (c .before .before .square-place .result) (c₄ .l .given .0 .0), c .run .last .1 .1 .1 .1 .1 .0)
     ≡ into (put-entry (args .i) (args .lengths .now, args .entries .now) (args .j))
     (each (c₄ .l .given .0 .0) (λ k. field 4 (coefficient-test (args .p) (c₄ .l .given .0 .0) k)) (args .s .now) (place (c₄ .l .given .0 .1 .0)))
+unfolding square-place
 entry-read c =
     let c₄ = c .before .before .before .before in
     let c₁₅ = c₄ .before .before .before .before .before .before .before .before .before .before .before in
     let args = c₁₅ .args in
     ap (λ (k : ℕ). going {A = List ℕ × List ℕ} (c .run .result) (set (args .lengths .now) k (c₄ .l .given .0 .0), c .run .last .1 .1 .1 .1 .1 .0))
-    (c .before .before .cell-at .ensures)
+    (c .before .before .square-place .ensures)
     ∙ beside (λ k. set (args .lengths .now) (args .i * most-rows + args .j) k) (c₄ .l .given .0 .0) _ _ _ _ _ _ (c .run .result) _ (run-read c)
     (moves-each (c₄ .l .given .0 .0) _ (λ k. any-field 4 _) .from (args .s .now) (place (c₄ .l .given .0 .1 .0)))
 
@@ -168,7 +170,7 @@ read-entry-spec =
     enum-known-x-2
     enum-known-l
     cast-count
-    cell-at-requires
+    square-place-requires
     mul-lengths
     slice-write-lengths
     mul-run

@@ -1,8 +1,8 @@
 use borrow.Author.Needs.{needs}
 use Rattle.rules.specs.Sizes.{most-rows}
 use Rattle.layout.specs.Flat.{square-place}
-use Rattle.matrix.proofs.degree.square_place.Statement.{statement}
-use Rattle.matrix.proofs.degree.square_place.Tie as tie
+use Rattle.layout.proofs.square_place.Statement.{statement}
+use Rattle.layout.proofs.square_place.Tie as tie
 
 mul-result : tie.Need-mul-result
 unfolding most-rows
