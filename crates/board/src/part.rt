@@ -30,65 +30,34 @@ pub struct Pointed {
     pub start: u32,
 }
 
+// The first byte of the record that a refusal of reading names; of any other verdict, 0.
+fn record_start(v: Verdict) -> u32
+    ensures { λ r. ⌜ r ≡ start-of (meant v) ⌝ }
+{
+    match v {
+        Verdict::Unread(r) => r.start,
+        Verdict::Passed(_) => 0,
+        Verdict::NotReduced => 0,
+        Verdict::NotMonomial => 0,
+        Verdict::BelowOrder(_, _) => 0,
+        Verdict::AtOrder(_, _) => 0,
+        Verdict::LowRank => 0,
+        Verdict::NoRoom(_) => 0,
+        Verdict::Written(_) => 0,
+    }
+}
+
 // Where the bytes of a verdict lie.
 fn pointer(v: Verdict) -> Pointed
     ensures { λ r. ⌜ (r .code ≡ numbers (meant v) .code) × ((r .file ≡ numbers (meant v) .file) × ((r .at ≡ numbers (meant v) .at) × (r .start ≡ start-of (meant v)))) ⌝ }
 {
-    match v {
-        Verdict::Passed(d) => Pointed {
-            code: 0,
-            file: 0,
-            at: d,
-            start: 0,
-        },
-        Verdict::Unread(r) => Pointed {
-            code: r.code,
-            file: r.file,
-            at: r.at,
-            start: r.start,
-        },
-        Verdict::NotReduced => Pointed {
-            code: 9,
-            file: 0,
-            at: 0,
-            start: 0,
-        },
-        Verdict::NotMonomial => Pointed {
-            code: 10,
-            file: 0,
-            at: 0,
-            start: 0,
-        },
-        Verdict::BelowOrder(_, j) => Pointed {
-            code: 11,
-            file: 2,
-            at: j,
-            start: 0,
-        },
-        Verdict::AtOrder(_, j) => Pointed {
-            code: 12,
-            file: 2,
-            at: j,
-            start: 0,
-        },
-        Verdict::LowRank => Pointed {
-            code: 13,
-            file: 0,
-            at: 0,
-            start: 0,
-        },
-        Verdict::NoRoom(k) => Pointed {
-            code: 14,
-            file: 0,
-            at: k,
-            start: 0,
-        },
-        Verdict::Written(k) => Pointed {
-            code: 0,
-            file: 0,
-            at: k,
-            start: 0,
-        },
+    let n = verdict::numbers(v);
+    let start = record_start(v);
+    Pointed {
+        code: n.code,
+        file: n.file,
+        at: n.at,
+        start,
     }
 }
 

@@ -42,65 +42,32 @@ pub struct Four {
     pub at: u32,
 }
 
+// The four numbers, put together.
+fn together(code: u8, file: u8, number: u16, at: u32) -> Four
+    ensures { λ r. ⌜ four-of r ≡ record { code = code; file = file; number = number; at = at } ⌝ }
+{
+    Four {
+        code,
+        file,
+        number,
+        at,
+    }
+}
+
 // The numbers that document 01 gives for each kind of answer.
 pub fn numbers(v: Verdict) -> Four
     ensures { λ r. ⌜ four-of r ≡ four-of-verdict v ⌝ }
 {
     match v {
-        Verdict::Passed(d) => Four {
-            code: 0,
-            file: 0,
-            number: 0,
-            at: d,
-        },
-        Verdict::Unread(r) => Four {
-            code: r.code,
-            file: r.file,
-            number: r.number,
-            at: r.at,
-        },
-        Verdict::NotReduced => Four {
-            code: 9,
-            file: 0,
-            number: 0,
-            at: 0,
-        },
-        Verdict::NotMonomial => Four {
-            code: 10,
-            file: 0,
-            number: 0,
-            at: 0,
-        },
-        Verdict::BelowOrder(i, j) => Four {
-            code: 11,
-            file: 2,
-            number: i,
-            at: j,
-        },
-        Verdict::AtOrder(i, j) => Four {
-            code: 12,
-            file: 2,
-            number: i,
-            at: j,
-        },
-        Verdict::LowRank => Four {
-            code: 13,
-            file: 0,
-            number: 0,
-            at: 0,
-        },
-        Verdict::NoRoom(k) => Four {
-            code: 14,
-            file: 0,
-            number: 0,
-            at: k,
-        },
-        Verdict::Written(k) => Four {
-            code: 0,
-            file: 0,
-            number: 0,
-            at: k,
-        },
+        Verdict::Passed(d) => together(0, 0, 0, d),
+        Verdict::Unread(r) => together(r.code, r.file, r.number, r.at),
+        Verdict::NotReduced => together(9, 0, 0, 0),
+        Verdict::NotMonomial => together(10, 0, 0, 0),
+        Verdict::BelowOrder(i, j) => together(11, 2, i, j),
+        Verdict::AtOrder(i, j) => together(12, 2, i, j),
+        Verdict::LowRank => together(13, 0, 0, 0),
+        Verdict::NoRoom(k) => together(14, 0, 0, k),
+        Verdict::Written(k) => together(0, 0, 0, k),
     }
 }
 
