@@ -7,13 +7,15 @@ use Prim.Native.Nat.{ℕ, _+_, _*_, _≤_, _<_}
 use native.Mathlib.Nat.{le-refl, mul-le-mul, mul-le-mul-right}
 use native.Mathlib.Omega.{arith}
 use lib.Dec.{leb, leb→le, lit<}
-use lib.ListN.{length, getD}
+use lib.ListN.{length}
 use Rattle.rules.specs.Sizes.{most-rows, most-order, most-length}
 use Rattle.rules.specs.Claim.{Problem}
 use Rattle.rules.specs.Reader.{Place, Refusal, refused, got, field, unless, each, front}
-use Rattle.rules.specs.Files.{PR, OR, SH, FC, PE, CE, entries-reader, problem-reader, answer-reader, basis-reader, read-problem, one-to}
+use Rattle.rules.specs.Files.{PR, OR, SH, FC, PE, CE, entries-reader, answer-reader, basis-reader, read-problem, one-to}
 use Rattle.rules.specs.FieldTests.{unless-iff, one-to-iff}
-use Rattle.reader.specs.Reach.{Near, Moves, moves-field, moves-give, moves-bind, moves-each, moves-inside, moves-end, moves-wider, All, all-at, moved-got, moved-refused, Any, any-field}
+use Rattle.rules.specs.Soundness.{sound-problem}
+use Rattle.rules.specs.Lengths.{longest-problem-is}
+use Rattle.reader.specs.Reach.{Near, Moves, moves-field, moves-give, moves-bind, moves-each, moves-inside, moves-end, moves-wider, All, moved-got, moved-refused, Any, any-field}
 
 size-field : (most : ℕ) → Moves (λ v. v ≤ most) 0 1 (field 1 (unless 3 (one-to most)))
 size-field most = moves-field 1 _ (λ v e. one-to-iff most v .0 (unless-iff 3 (one-to most v) (omega arith) .0 e) .1)
@@ -88,43 +90,18 @@ pub record Narrow (p : Place) : Type 0 where
   pub start-fits : p .start < 4_294_967_296
   pub at-fits : p .at < 4_294_967_296
 
--- The bytes of the longest column, of the longest problem and of the longest answer.
-column-bytes : ℕ
-column-bytes = 3 + most-rows * (most-order * 4)
-
-problem-bytes : ℕ
-problem-bytes = 8 + ((2 + most-rows) + ((2 + most-rows * 2) + (most-rows * column-bytes + 0)))
-
-columns-move : (p m n : ℕ) (orders : List ℕ) → m ≤ most-rows → n ≤ most-rows → All (λ d. d ≤ most-order) orders
-    → Moves Any most-rows (most-rows * column-bytes) (each n (λ j. FC p m (getD orders j 0) j))
-unfolding column-bytes
-columns-move p m n orders hm hn ho =
-    let order : (j : ℕ) → getD orders j 0 ≤ most-order = all-at (λ d. d ≤ most-order) orders (omega arith) ho in
-    let entry : (j : ℕ) → getD orders j 0 * 4 ≤ most-order * 4 = λ j. omega (arith, order j) in
-    moves-wider most-rows (most-rows * (3 + most-rows * (most-order * 4)))
-    (moves-each n _
-    (λ j. moves-wider {R = Any} 1 (3 + most-rows * (most-order * 4)) (FC-moves p m (getD orders j 0) j) (λ l g. tt) (omega arith) (omega (arith, mul-le-mul hm (entry j)))))
-    (λ l g. tt) (omega arith) (mul-le-mul-right (3 + most-rows * (most-order * 4)) hn)
-
-problem-moves : Moves Any (1 + (1 + (1 + (most-rows + 0)))) problem-bytes problem-reader
-unfolding problem-reader problem-bytes
-problem-moves =
-    moves-bind PR-moves
-    (λ h qh.
-    moves-bind (moves-wider 1 (2 + most-rows) (OR-moves (h .2)) (λ l g. g) (omega arith) (omega arith))
-    (λ orders qo.
-    moves-bind (moves-wider 1 (2 + most-rows * 2) (SH-moves (h .1)) (λ l g. g) (omega arith) (omega arith))
-    (λ shifts qs. moves-bind (columns-move (h .0) (h .1) (h .2) orders (qh .0) (qh .1) (qo .0)) (λ F qF. moves-end {Q = Any} _ tt))))
-
 -- Near the front of a file.
 near-front : (file k w : ℕ) (q : Place) → Near k w (front file) q → w < 4_294_967_296 → Narrow q
 near-front file k w q h le = record { start-fits = omega arith; at-fits = omega arith }
 
 -- A refusal of the problem fits 32 bits.
 pub problem-refused : (s : List ℕ) {x : Refusal} → read-problem s ≡ refused x → Narrow (x .place)
-unfolding read-problem problem-bytes column-bytes most-rows most-order
-problem-refused s {x} e = near-front 0 _ problem-bytes (x .place) (moved-refused problem-moves s (front 0) e) (lit< tt)
+unfolding read-problem
+problem-refused s e =
+    let place = sound-problem .refuses s (front 0) e .place in
+    record { start-fits = omega (arith, place .start (omega arith), place .at, longest-problem-is); at-fits = omega (arith, place .at, longest-problem-is) }
 
+-- The bytes of the longest entry, and of the entries.
 entry-bytes : ℕ
 entry-bytes = 5 + most-length * 4
 
