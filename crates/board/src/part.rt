@@ -123,7 +123,7 @@ fn evidence_record<'a>(problem: &'a [u8], answer: &'a [u8]) -> Piece
 }
 
 // The part that the verdict `v` on the two files points at.
-pub fn span<'a>(problem: &'a [u8], answer: &'a [u8], v: Verdict) -> Piece
+pub(crate) fn span<'a>(problem: &'a [u8], answer: &'a [u8], v: Verdict) -> Piece
     requires { ⌜ meant v ≡ verdict (now problem) (now answer) ⌝ }
     ensures { λ r. ⌜ part-of r ≡ pointed-at (now (problem .entry)) (now (answer .entry)) ⌝ }
 {
@@ -142,7 +142,13 @@ pub fn span<'a>(problem: &'a [u8], answer: &'a [u8], v: Verdict) -> Piece
 }
 
 // That part itself.
-pub fn cut<'a>(problem: &'a [u8], answer: &'a [u8], file: u8, start: usize, size: usize) -> &'a [u8]
+pub(crate) fn cut<'a>(
+    problem: &'a [u8],
+    answer: &'a [u8],
+    file: u8,
+    start: usize,
+    size: usize,
+) -> &'a [u8]
     requires { ⌜ start + size ≤ cond (eqb file 0) (length (now problem)) (length (now answer)) ⌝ }
     ensures { λ r. ⌜ PartIn (problem .entry) (answer .entry) r (record { file = file; start = start; size = size }) ⌝ }
 {
