@@ -11,7 +11,6 @@ use Rattle.algebra.specs.Prime.{Prime}
 use Rattle.rules.specs.Sizes.{most-rows}
 use Rattle.rules.specs.Claim.{Claim}
 use Rattle.rules.specs.Valid.{Valid}
-use Rattle.rules.specs.Verdict.{Verdict}
 use Rattle.matrix.specs.Claims.{EntryCells, EntryLengths, ColumnCells, Orders, Shifts, Constants}
 use Rattle.matrix.specs.Degrees.{Sized}
 use Rattle.matrix.specs.Product.{Factors}
@@ -53,7 +52,7 @@ claim p m n orders shifts F P C =
     record { problem = record { p = p; m = m; n = n; orders = orders; shifts = shifts; F = F }; answer = record { P = P; C = C } }
 
 -- v is what `rule` gives for every claim with that p, m and n that the arrays hold.
-abbrev pub Judged : (Claim → Verdict) → ℕ → ℕ → ℕ → Arrays → Verdict → Type 0
+abbrev pub Judged : {A : Type 0} → (Claim → A) → ℕ → ℕ → ℕ → Arrays → A → Type 0
 Judged rule p m n x v =
     (orders : List ℕ) (shifts : List ℤ) (F P : List (List (List ℕ))) (C : List (List ℕ))
     → Held x (claim p m n orders shifts F P C) → v ≡ rule (claim p m n orders shifts F P C)

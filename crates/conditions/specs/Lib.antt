@@ -1,4 +1,5 @@
 pub mod Held
+pub mod Applies
 pub mod Steps
-pub mod Answers
+pub mod Findings
 pub mod Unique

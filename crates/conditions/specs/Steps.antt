@@ -1,7 +1,6 @@
 -- Each condition over the arrays that hold a claim is that of the rules over the claim.
 use mathlib.Core.Path.{_≡_, refl, sym, ap, subst, _∙_}
 use mathlib.Core.Bool.{Bool, true, false, not}
-use mathlib.Core.Option.{none, some}
 use Prim.Native.Nat.{ℕ, _+_}
 use native.Mathlib.Nat.{le-of-lt}
 use Rattle.algebra.specs.Residue.{K, red}
@@ -14,7 +13,6 @@ use Rattle.algebra.specs.PolyMatrix.{entries as series-entries}
 use Rattle.rules.specs.Claim.{Claim}
 use Rattle.rules.specs.Matrices.{matrix-P}
 use Rattle.rules.specs.Conditions.{leading-matrix, reduced, monomial-determinant, degree-sum, low-fault, order-fault, first-place, rank-matrix, rank-below}
-use Rattle.rules.specs.Verdict.{passed, not-reduced, not-monomial, below-order, at-order, low-rank, natural, judge-claim, by-product, by-rank}
 use Rattle.rules.specs.BoolLaws.{false-iff}
 use Rattle.rules.specs.ReducedLaws.{reduced-iff}
 use Rattle.rules.specs.DeterminantLaws.{monomial-determinant-iff}
@@ -98,41 +96,3 @@ module _ (x : Arrays) (c : Claim) (held : Held x c) where
   pub same-degree-sum : flat-degree-sum (x .lengths) (x .shifts) (c .problem .m) ≡ degree-sum (c .problem) (c .answer .P)
   same-degree-sum =
       degree-sum-rules (c .problem) (c .answer .P) (x .entries) (x .lengths) (x .columns) (x .orders) (x .shifts) (held .lengths-held) (held .shifts-held)
-
--- The verdict, from the conditions in their order.
-module _ (c : Claim) where
-  pub judged-not-reduced : reduced (c .problem) (c .answer .P) ≡ false → judge-claim c ≡ not-reduced
-  unfolding judge-claim
-  judged-not-reduced r = rw (r, judge-claim)
-
-  pub judged-not-monomial : reduced (c .problem) (c .answer .P) ≡ true → monomial-determinant (c .problem) (c .answer .P) ≡ false → judge-claim c ≡ not-monomial
-  unfolding judge-claim
-  judged-not-monomial r d = rw (r, judge-claim) (rw d)
-
-  -- Where the first two conditions hold, the product decides …
-  pub judged-product : reduced (c .problem) (c .answer .P) ≡ true → monomial-determinant (c .problem) (c .answer .P) ≡ true → judge-claim c ≡ by-product c
-  unfolding judge-claim
-  judged-product r d = rw (r, judge-claim) (rw d)
-
-  pub product-below : (i j : ℕ) → first-place (c .problem .m) (c .problem .n) (low-fault (c .problem) (c .answer .P)) ≡ some (i, j) → by-product c ≡ below-order i j
-  unfolding by-product
-  product-below i j e = rw (e, by-product)
-
-  pub product-at : (i j : ℕ) → first-place (c .problem .m) (c .problem .n) (low-fault (c .problem) (c .answer .P)) ≡ none
-      → first-place (c .problem .m) (c .problem .n) (order-fault (c .problem) (c .answer .P) (c .answer .C)) ≡ some (i, j) → by-product c ≡ at-order i j
-  unfolding by-product
-  product-at i j e h = rw (e, by-product) (rw h)
-
-  -- … and then the rank.
-  pub product-rank : first-place (c .problem .m) (c .problem .n) (low-fault (c .problem) (c .answer .P)) ≡ none
-      → first-place (c .problem .m) (c .problem .n) (order-fault (c .problem) (c .answer .P) (c .answer .C)) ≡ none → by-product c ≡ by-rank c
-  unfolding by-product
-  product-rank e h = rw (e, by-product) (rw h)
-
-  pub rank-low : rank-below (c .problem) (c .answer .P) (c .answer .C) ≡ true → by-rank c ≡ low-rank
-  unfolding by-rank
-  rank-low e = rw (e, by-rank)
-
-  pub rank-passed : rank-below (c .problem) (c .answer .P) (c .answer .C) ≡ false → by-rank c ≡ passed (natural (degree-sum (c .problem) (c .answer .P)))
-  unfolding by-rank
-  rank-passed e = rw (e, by-rank)

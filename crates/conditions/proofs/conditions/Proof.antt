@@ -1,81 +1,94 @@
 use borrow.Author.Needs.{needs}
-use borrow.Author.Tests.{not-true, not-false}
-use mathlib.Core.Path.{sym, subst}
-use mathlib.Core.List.{List, []}
-use Prim.Native.Nat.{ℕ, _<_}
+use mathlib.Core.Path.{ap, subst, _∙_}
+use mir.Syntax.{w32}
+use mir.ValLaws.{toZ-ofZ}
+use Prim.Native.Nat.{_-_}
 use native.Mathlib.Omega.{arith}
-use lib.ListN.{getD}
 use denote.Ref.{now}
-use Rattle.rules.specs.Sizes.{most-rows}
+use Rattle.rules.specs.Verdict.{natural}
 use Rattle.verdict.specs.Meant.{meant}
-use Rattle.matrix.specs.Degrees.{leading-array-below}
-use Rattle.conditions.specs.Held.{arrays}
-use Rattle.conditions.specs.Answers.{answer-not-reduced, answer-not-monomial, answer-product}
+use Rattle.conditions.specs.Held.{Arrays, Judged, arrays}
+use Rattle.conditions.specs.Applies.{applies}
+use Rattle.conditions.specs.Findings.{finding, Tried, none-tried, tried-fault, tried-one, all-tried}
 use Rattle.conditions.proofs.conditions.Statement.{statement}
 use Rattle.conditions.proofs.conditions.Tie as tie
-use Rattle.conditions.proofs.by_product.Reads as by-product-reads
-use Rattle.determinant.proofs.determinant_is_monomial.Reads as determinant-is-monomial-reads
-use Rattle.elimination.proofs.singular.Reads as singular-reads
-use Rattle.matrix.proofs.degree.leading_matrix.Reads as leading-matrix-reads
+use Rattle.conditions.proofs.applying.Reads as applying-reads
+use Rattle.matrix.proofs.degree.degree_sum.Reads as degree-sum-reads
+use Rattle.matrix.proofs.degree.not_negative.Reads as not-negative-reads
 
-leading-matrix-requires : tie.Need-leading-matrix-requires
-leading-matrix-requires c κs = search needs
+abbrev Inv-loop : tie.InvT-loop
+Inv-loop orders shifts f lengths entries c p m n code₀ code = Tried p m n (arrays orders shifts f lengths entries c) code
 
-singular-requires : tie.Need-singular-requires
-singular-requires c κs =
-    let start = c .before in
-    let a = start .args in
-    let small : (i j : ℕ) → getD (getD (c .leading-matrix .result) i []) j 0 < a .p = λ i j. subst (λ (l : List (List ℕ)). getD (getD l i []) j 0 < a .p) (sym (c .leading-matrix .ensures))
-    (leading-array-below (a .p) (now (a .entries)) (now (a .lengths)) (a .shifts) (a .m) (start .pre .factors .modulus-positive) (start .pre .factors .entry-below) i j) in
-    (start .pre .prime, (start .pre .rows-most, small))
+abbrev μ-loop : tie.MeasureT-loop
+μ-loop orders shifts f lengths entries c p m n code₀ code = 14 - code
 
-returns : tie.Need-returns
+-- The arrays of the claim.
+abbrev held : tie.Start Inv-loop μ-loop → Arrays
+held s = arrays (s .args .orders) (s .args .shifts) (now (s .args .f)) (now (s .args .lengths)) (now (s .args .entries)) (now (s .args .c))
+
+loop-holds : tie.Need-loop-holds Inv-loop μ-loop
+loop-holds c = none-tried (c .args .p) (c .args .m) (c .args .n) (held c)
+
+applying-requires : tie.Need-applying-requires Inv-loop μ-loop
+applying-requires c κs = search needs
+
+enum-known-v : tie.Need-enum-known-v Inv-loop μ-loop
+enum-known-v c = search needs
+
+returns : tie.Need-returns Inv-loop μ-loop
 returns c =
-    let start = c .before .before .before in
-    let a = start .args in
-    let x = arrays (a .orders) (a .shifts) (now (a .f)) (now (a .lengths)) (now (a .entries)) (now (a .c)) in
-    answer-not-reduced (a .p) (a .m) (a .n) x (c .before .before .leading-matrix .result) (c .before .singular .result) (c .before .before .leading-matrix .ensures) (c .before .singular .ensures) (c .if1 .taken)
+    let s = c .before .before .before .before .before .before in
+    let l = c .before .before .before .before .before .loop in
+    let found = c .before .before .before .applying in
+    let v = c .before .v .given in
+    tried-fault (s .args .p) (s .args .m) (s .args .n) (held s) (l .code) (meant (v .0 .0)) (omega arith) (l .inv)
+    (subst (λ r. Judged (applies (l .code)) (s .args .p) (s .args .m) (s .args .n) (held s) (finding r)) (v .1) (found .ensures))
 
-determinant-is-monomial-requires : tie.Need-determinant-is-monomial-requires
-unfolding most-rows
-determinant-is-monomial-requires c κs =
-    let start = c .before .before .before in
-    let a = start .args in
-    record {
-      two-le = start .pre .prime .two-le;
-      allowed = start .pre .factors .modulus-most;
-      some-row = start .pre .rows-least;
-      few-rows = start .pre .rows-most;
-      below = start .pre .factors .entry-below;
-      short = start .pre .factors .padded .length-most;
-      zeros = λ i j k hi hj h. start .pre .factors .padded .past-length i j k (omega (arith, start .pre .rows-most)) (omega (arith, start .pre .rows-most)) h;
-    }
+enum-told : tie.Need-enum-told Inv-loop μ-loop
+enum-told c = search needs
 
-returns-2 : tie.Need-returns-2
+add-code : tie.Need-add-code Inv-loop μ-loop
+add-code c = search needs
+
+loop-less : tie.Need-loop-less Inv-loop μ-loop
+loop-less c = search needs
+
+loop-again : tie.Need-loop-again Inv-loop μ-loop
+loop-again c =
+    let s = c .before .before .before .before .before in
+    let l = c .before .before .before .before .loop in
+    let found = c .before .before .applying in
+    tried-one (s .args .p) (s .args .m) (s .args .n) (held s) (l .code) (omega arith) (l .inv)
+    (subst (λ r. Judged (applies (l .code)) (s .args .p) (s .args .m) (s .args .n) (held s) (finding r)) (c .enum-told .given .1) (found .ensures))
+
+degree-sum-requires : tie.Need-degree-sum-requires Inv-loop μ-loop
+degree-sum-requires c κs = search needs
+
+not-negative-requires : tie.Need-not-negative-requires Inv-loop μ-loop
+not-negative-requires c κs = search needs
+
+returns-2 : tie.Need-returns-2 Inv-loop μ-loop
 returns-2 c =
-    let start = c .before .before .before .before .before in
-    let a = start .args in
-    let x = arrays (a .orders) (a .shifts) (now (a .f)) (now (a .lengths)) (now (a .entries)) (now (a .c)) in
-    answer-not-monomial (a .p) (a .m) (a .n) x (c .before .before .before .before .leading-matrix .result) (c .before .before .before .singular .result) (c .before .determinant-is-monomial .result) (c .before .before .before .before .leading-matrix .ensures) (c .before .before .before .singular .ensures) (c .before .before .if1 .left) (c .before .determinant-is-monomial .ensures) (not-true (c .before .determinant-is-monomial .result) (c .if2 .taken))
-
-by-product-requires : tie.Need-by-product-requires
-by-product-requires c κs = search needs
-
-returns-3 : tie.Need-returns-3
-returns-3 c =
-    let start = c .before .before .before .before .before .before in
-    let a = start .args in
-    let x = arrays (a .orders) (a .shifts) (now (a .f)) (now (a .lengths)) (now (a .entries)) (now (a .c)) in
-    answer-product (a .p) (a .m) (a .n) x (c .before .before .before .before .before .leading-matrix .result) (c .before .before .before .before .singular .result) (c .before .before .determinant-is-monomial .result) (meant (c .by-product .result)) (c .before .before .before .before .before .leading-matrix .ensures) (c .before .before .before .before .singular .ensures) (c .before .before .before .if1 .left) (c .before .before .determinant-is-monomial .ensures) (not-false (c .before .before .determinant-is-monomial .result) (c .before .if2 .left)) (c .by-product .ensures)
+    let s = c .before .before .before .before in
+    let l = c .before .before .before .loop in
+    let sum = c .before .degree-sum in
+    all-tried (s .args .p) (s .args .m) (s .args .n) (held s) (l .code) (sum .result) (c .not-negative .result) (omega arith) (l .inv) (sum .ensures)
+    (c .not-negative .ensures ∙ ap natural (toZ-ofZ w32 (sum .result) (record { sfits = sum .ok })))
 
 pub conditions-spec : {M : Type 1} → statement M
 conditions-spec =
     tie.close
     (tie.spec
-    leading-matrix-requires
-    singular-requires
+    Inv-loop
+    μ-loop
+    loop-holds
+    applying-requires
+    enum-known-v
     returns
-    determinant-is-monomial-requires
-    returns-2
-    by-product-requires
-    returns-3)
+    enum-told
+    add-code
+    loop-less
+    loop-again
+    degree-sum-requires
+    not-negative-requires
+    returns-2)

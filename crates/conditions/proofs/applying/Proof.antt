@@ -1,0 +1,105 @@
+use borrow.Author.Needs.{needs}
+use mathlib.Core.Path.{refl}
+use native.Mathlib.Omega.{arith}
+use denote.Ref.{now}
+use Rattle.rules.specs.Sizes.{most-rows}
+use Rattle.conditions.specs.Held.{Arrays, arrays}
+use Rattle.conditions.specs.Findings.{found-as, found-not-reduced, found-not-monomial, found-below, found-at, found-low-rank}
+use Rattle.conditions.proofs.applying.Statement.{statement}
+use Rattle.conditions.proofs.applying.Tie as tie
+use Rattle.conditions.proofs.fault_if.Reads as fault-if-reads
+use Rattle.conditions.proofs.low_rank.Reads as low-rank-reads
+use Rattle.conditions.proofs.not_reduced.Reads as not-reduced-reads
+use Rattle.conditions.proofs.product_fault.Reads as product-fault-reads
+use Rattle.determinant.proofs.determinant_is_monomial.Reads as determinant-is-monomial-reads
+
+-- The arrays of the claim.
+abbrev held : tie.Start → Arrays
+held s = arrays (s .args .orders) (s .args .shifts) (now (s .args .f)) (now (s .args .lengths)) (now (s .args .entries)) (now (s .args .c))
+
+not-reduced-requires : tie.Need-not-reduced-requires
+not-reduced-requires c κs = search needs
+
+fault-if-requires : tie.Need-fault-if-requires
+fault-if-requires c κs = search needs
+
+determinant-is-monomial-requires : tie.Need-determinant-is-monomial-requires
+unfolding most-rows
+determinant-is-monomial-requires c κs =
+    let pre = c .before .pre in
+    record {
+      two-le = pre .prime .two-le;
+      allowed = pre .factors .modulus-most;
+      some-row = pre .rows-least;
+      few-rows = pre .rows-most;
+      below = pre .factors .entry-below;
+      short = pre .factors .padded .length-most;
+      zeros = λ i j k hi hj h. pre .factors .padded .past-length i j k (omega (arith, pre .rows-most)) (omega (arith, pre .rows-most)) h;
+    }
+
+fault-if-requires-2 : tie.Need-fault-if-requires-2
+fault-if-requires-2 c κs = search needs
+
+product-fault-requires : tie.Need-product-fault-requires
+product-fault-requires c κs = search needs
+
+product-fault-requires-2 : tie.Need-product-fault-requires-2
+product-fault-requires-2 c κs = search needs
+
+low-rank-requires : tie.Need-low-rank-requires
+low-rank-requires c κs = search needs
+
+fault-if-requires-3 : tie.Need-fault-if-requires-3
+fault-if-requires-3 c κs = search needs
+
+returns : tie.Need-returns
+returns c =
+    let s = c .before .before .before in
+    let a = s .args in
+    let test = c .before .not-reduced in
+    found-as (a .p) (a .m) (a .n) (held s) (a .code) 9 _ _ (c .before .before .match .keys1) (c .fault-if .ensures) (found-not-reduced (a .p) (a .m) (a .n) (held s) (test .result) (test .ensures))
+
+returns-2 : tie.Need-returns-2
+returns-2 c =
+    let s = c .before .before .before in
+    let a = s .args in
+    let test = c .before .determinant-is-monomial in
+    found-as (a .p) (a .m) (a .n) (held s) (a .code) 10 _ _ (c .before .before .match .keys2) (c .fault-if2 .ensures) (found-not-monomial (a .p) (a .m) (a .n) (held s) (test .result) (test .ensures))
+
+returns-3 : tie.Need-returns-3
+returns-3 c =
+    let s = c .before .before in
+    let a = s .args in
+    found-as (a .p) (a .m) (a .n) (held s) (a .code) 11 _ _ (c .before .match .keys3) (c .product-fault .ensures) (found-below (a .p) (a .m) (a .n) (held s))
+
+returns-4 : tie.Need-returns-4
+returns-4 c =
+    let s = c .before .before in
+    let a = s .args in
+    found-as (a .p) (a .m) (a .n) (held s) (a .code) 12 _ _ (c .before .match .keys4) (c .product-fault2 .ensures) (found-at (a .p) (a .m) (a .n) (held s))
+
+returns-5 : tie.Need-returns-5
+returns-5 c =
+    let s = c .before .before .before in
+    let a = s .args in
+    let test = c .before .low-rank in
+    let other = c .before .before .match .rest in
+    found-as (a .p) (a .m) (a .n) (held s) (a .code) (a .code) _ _ refl (c .fault-if3 .ensures) (found-low-rank (a .p) (a .m) (a .n) (held s) (a .code) (test .result) (other .0 .0 .0 .1) (other .0 .0 .1) (other .0 .1) (other .1) (test .ensures))
+
+pub applying-spec : {M : Type 1} → statement M
+applying-spec =
+    tie.close
+    (tie.spec
+    not-reduced-requires
+    fault-if-requires
+    determinant-is-monomial-requires
+    fault-if-requires-2
+    product-fault-requires
+    product-fault-requires-2
+    low-rank-requires
+    fault-if-requires-3
+    returns
+    returns-2
+    returns-3
+    returns-4
+    returns-5)
