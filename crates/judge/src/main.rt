@@ -2,11 +2,10 @@
 ghost use mathlib.Core.Path.{_≡_};
 ghost use Prim.Native.Nat.{_≤_};
 ghost use lib.ListN.{length};
+ghost use Rattle.rules.specs.Sizes.{read-limit};
 ghost use Rattle.judge.specs.Loads.{Within};
+use layout::READ_LIMIT;
 use libc::STDOUT_FILENO;
-
-// At most so many bytes of each file are read.
-const LIMIT: usize = 16384;
 
 // The first bytes of a file, or that it can't be opened or read.
 pub enum Loaded {
@@ -14,11 +13,11 @@ pub enum Loaded {
     Missing,
 }
 
-// Room for a file.
-fn room() -> [u8; LIMIT]
-    ensures { λ r. ⌜ 16384 ≡ length r ⌝ }
+// Room for as much of a file as is read.
+fn room() -> [u8; READ_LIMIT]
+    ensures { λ r. ⌜ length r ≡ read-limit ⌝ }
 {
-    [0; LIMIT]
+    [0; READ_LIMIT]
 }
 
 // Reads the file that argument `i` names into `out`, as far as there is room.

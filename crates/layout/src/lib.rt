@@ -16,6 +16,9 @@ pub const PRIME: u32 = 2_147_483_647;
 
 pub const SHIFT: u32 = 1_000;
 
+// The bytes of a file that a program reads: at most so many.
+pub const READ_LIMIT: usize = 16_384;
+
 // The columns of [P(0) C], the entries of a matrix, and the coefficients of P and of F.
 pub const COLUMNS: usize = 2 * ROWS;
 
