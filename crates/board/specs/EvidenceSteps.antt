@@ -28,9 +28,10 @@ use Rattle.reader.specs.Flat.{filled, cells, entry-cells, coefficients, list-in
 use Rattle.reader.specs.Storing.{into, into-got, into-refused}
 use Rattle.reader.specs.Values.{problem-value, answer-value, answer-of, only, without-evidence}
 use Rattle.layout.specs.Appended.{Appended}
-use Rattle.matrix.specs.Product.{flat-product, Factors}
-use Rattle.matrix.specs.Faults.{Ordered}
-use Rattle.matrix.specs.Claims.{EntryCells, ColumnCells, Orders, product-rules}
+use Rattle.product.specs.Product.{flat-product, Factors}
+use Rattle.product.specs.Faults.{Ordered}
+use Rattle.layout.specs.Holds.{EntryCells, ColumnCells, Orders}
+use Rattle.product.specs.Claims.{product-rules}
 use Rattle.evidence.specs.Record.{row-numbers, flat-evidence}
 use Rattle.board.specs.Readings.{problem-off, problem-on, answer-off, answer-on}
 use Rattle.board.specs.Filled.{problem-filled-factors, filled-orders, filled-entries, filled-columns, filled-orders-held}

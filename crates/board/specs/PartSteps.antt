@@ -33,7 +33,7 @@ use Rattle.rules.specs.Ranges.{problem-valid, claim-got}
 use Rattle.rules.specs.RefusalPlaces.{claim-refused}
 use Rattle.rules.specs.VerdictLaws.{verdict-of-refusal, code-of-refusal, Judged, verdict-judged}
 use Rattle.rules.specs.PartLaws.{pointed-refused, pointed-claim, front-of-answer, pointed-front, refused-start, pointed-within}
-use Rattle.matrix.specs.Faults.{Ordered}
+use Rattle.product.specs.Faults.{Ordered}
 use Rattle.rules.specs.WriterLaws.{sum-below-cong}
 use Rattle.reader.specs.declared.Problem.{Problem as ReadProblem}
 use Rattle.reader.specs.Arrays.{list-at}

@@ -8,7 +8,7 @@ ghost use Rattle.rules.specs.Conditions.{sum-below};
 ghost use Rattle.rules.specs.Sizes.{most-rows};
 ghost use Rattle.rules.specs.Verdict.{verdict, numbers};
 ghost use Rattle.rules.specs.Part.{pointed-at};
-ghost use Rattle.matrix.specs.Faults.{Ordered};
+ghost use Rattle.product.specs.Faults.{Ordered};
 ghost use Rattle.verdict.specs.Meant.{meant};
 ghost use Rattle.board.specs.Parts.{PartIn, HasColumn, ColumnPart, part-of, start-of};
 use layout::ROWS;

@@ -22,10 +22,10 @@ use Rattle.layout.specs.Flat.{cells}
 use Rattle.layout.specs.Settles.{Settles}
 use Rattle.matrix.specs.Fill.{array-of}
 use Rattle.matrix.specs.Degrees.{flat-degree-sum, leading-number}
-use Rattle.matrix.specs.Faults.{flat-fault, place-of}
+use Rattle.product.specs.Faults.{flat-fault, place-of}
 use Rattle.matrix.specs.Rank.{rank-number}
-use Rattle.matrix.specs.declared.fault.Place.{Place}
-use Rattle.matrix.specs.declared.fault.Place.the-variants.{At, Nowhere}
+use Rattle.product.specs.declared.fault.Place.{Place}
+use Rattle.product.specs.declared.fault.Place.the-variants.{At, Nowhere}
 use Rattle.elimination.specs.Grid.{grid}
 use Rattle.conditions.specs.Held.{Arrays, Held, Judged, claim}
 use Rattle.conditions.specs.Applies.{applies, fault-if, fault-at, product-verdict, first-applying, judged-in-order, applies-rank, applying-first, applying-later}

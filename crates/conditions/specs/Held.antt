@@ -11,10 +11,10 @@ use Rattle.algebra.specs.Prime.{Prime}
 use Rattle.rules.specs.Sizes.{most-rows}
 use Rattle.rules.specs.Claim.{Claim}
 use Rattle.rules.specs.Valid.{Valid}
-use Rattle.matrix.specs.Claims.{EntryCells, EntryLengths, ColumnCells, Orders, Shifts, Constants}
+use Rattle.layout.specs.Holds.{EntryCells, EntryLengths, ColumnCells, Orders, Shifts, Constants}
 use Rattle.matrix.specs.Degrees.{Sized}
-use Rattle.matrix.specs.Product.{Factors}
-use Rattle.matrix.specs.Faults.{Ordered}
+use Rattle.product.specs.Product.{Factors}
+use Rattle.product.specs.Faults.{Ordered}
 
 pub record Arrays : Type 0 where
   pub orders : List ℕ

@@ -18,10 +18,11 @@ use Rattle.rules.specs.ReducedLaws.{reduced-iff}
 use Rattle.rules.specs.DeterminantLaws.{monomial-determinant-iff}
 use Rattle.rules.specs.ProductLaws.{rank-below-iff}
 use Rattle.layout.specs.Flat.{cells}
-use Rattle.matrix.specs.Claims.{leading-rules, rank-rules, first-low-place, first-order-place, degree-sum-rules}
+use Rattle.matrix.specs.Claims.{leading-rules, rank-rules, degree-sum-rules}
+use Rattle.product.specs.Claims.{first-low-place, first-order-place}
 use Rattle.matrix.specs.Fill.{array-of}
 use Rattle.matrix.specs.Degrees.{flat-degree-sum, leading-number}
-use Rattle.matrix.specs.Faults.{flat-fault}
+use Rattle.product.specs.Faults.{flat-fault}
 use Rattle.matrix.specs.Rank.{rank-number}
 use Rattle.layout.specs.Settles.{Settles}
 use Rattle.elimination.specs.Grid.{grid}

@@ -16,8 +16,8 @@ ghost use Rattle.elimination.specs.Grid.{grid};
 ghost use Rattle.matrix.specs.Fill.{array-of};
 ghost use Rattle.matrix.specs.Degrees.{Sized, leading-number};
 ghost use Rattle.matrix.specs.Rank.{rank-number};
-ghost use Rattle.matrix.specs.Product.{Factors};
-ghost use Rattle.matrix.specs.Faults.{Ordered, flat-fault};
+ghost use Rattle.product.specs.Product.{Factors};
+ghost use Rattle.product.specs.Faults.{Ordered, flat-fault};
 ghost use Rattle.conditions.specs.Held.{Ready, Judged, arrays};
 ghost use Rattle.conditions.specs.Applies.{applies, fault-if, fault-at, product-verdict};
 ghost use Rattle.conditions.specs.Findings.{finding};
@@ -29,9 +29,9 @@ use layout::ENTRY_COEFFICIENTS;
 use layout::ROWS;
 use layout::SQUARE;
 use matrix::degree::leading_matrix;
-use matrix::fault::Place;
-use matrix::fault::first_fault;
 use matrix::rank::rank_matrix;
+use product::fault::Place;
+use product::fault::first_fault;
 use verdict::Verdict;
 
 // What a claim is refused for, or nothing.

@@ -10,7 +10,7 @@ use Rattle.rules.specs.Writer.{bytes, write-each, write-all, write-CE}
 use Rattle.rules.specs.Evidence.{table}
 use Rattle.layout.specs.Appended.{Appended, appended-nothing, appended-byte, appended-both, appended-push}
 use Rattle.rules.specs.ByteNumbers.{length-bytes}
-use Rattle.matrix.specs.Product.{flat-product}
+use Rattle.product.specs.Product.{flat-product}
 
 abbrev pub mark-bytes : List ℕ
 mark-bytes = 0x43 ∷ 0x45 ∷ []

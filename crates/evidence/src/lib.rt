@@ -5,8 +5,8 @@ ghost use lib.ListN.{length};
 ghost use Rattle.rules.specs.Sizes.{most-rows};
 ghost use Rattle.rules.specs.Writer.{bytes, write-all, write-CE};
 ghost use Rattle.layout.specs.Appended.{Appended};
-ghost use Rattle.matrix.specs.Product.{Factors};
-ghost use Rattle.matrix.specs.Faults.{Ordered};
+ghost use Rattle.product.specs.Product.{Factors};
+ghost use Rattle.product.specs.Faults.{Ordered};
 ghost use Rattle.evidence.specs.Record.{mark-bytes, row-numbers, flat-evidence};
 use layout::COLUMN_COEFFICIENTS;
 use layout::ENTRY_COEFFICIENTS;
@@ -57,7 +57,7 @@ fn put_row<'a, 'b>(
     let mut end = at;
     let mut j = 0;
     while j < n {
-        let v = matrix::fault::order_coefficient(entries, lengths, f, orders, p, m, i, j);
+        let v = product::fault::order_coefficient(entries, lengths, f, orders, p, m, i, j);
         end = put4(out, end, v);
         j += 1;
     }

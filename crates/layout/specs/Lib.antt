@@ -1,4 +1,5 @@
 pub mod Flat
+pub mod Holds
 pub mod Appended
 pub mod Settles
 pub mod Words

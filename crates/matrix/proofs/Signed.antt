@@ -3,7 +3,7 @@
 --   small-fits               a number whose size is below 2 ^ 31 fits
 --   binary-fits, binary-value      a sum or a difference of two numbers whose sizes together are below 2 ^ 31
 use mathlib.Core.Path.{_≡_, refl, sym, ap, ap₂, subst, _∙_}
-use mathlib.Core.Bool.{Bool, true, false, cond}
+use mathlib.Core.Bool.{true, false}
 use Prim.Native.Nat.{_+_, _^_, _≤_, _<_}
 use native.Mathlib.Nat.{lt-of-le-of-lt}
 use native.Mathlib.Omega.{arith}
@@ -34,13 +34,6 @@ module _ (op : ℤ → ℤ → ℤ) (size : (x y : ℤ) → natAbs (op x y) ≤ 
 
   pub binary-value : toZ w32 (ofZ w32 (op (toZ w32 (ofZ w32 x)) (toZ w32 (ofZ w32 y)))) ≡ op x y
   binary-value = back binary-fits ∙ plain
-
--- What is picked by a test that came out true, and by one that came out false.
-pub cond-true : {A : Type 0} (b : Bool) (x y : A) → b ≡ true → cond b x y ≡ x
-cond-true b x y e = ap (λ b. cond b x y) e
-
-pub cond-false : {A : Type 0} (b : Bool) (x y : A) → b ≡ false → cond b x y ≡ y
-cond-false b x y e = ap (λ b. cond b x y) e
 
 -- The test that the machine makes of being below 0 is that of the number.
 pub below-zero-back : {x : ℤ} → SFits w32 x → ltZ x (pos 0) ≡ ltZ (toZ w32 (ofZ w32 x)) (pos 0)

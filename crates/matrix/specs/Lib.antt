@@ -1,11 +1,6 @@
 pub mod Signed
 pub mod Fill
 pub mod Degrees
-pub mod Sums
-pub mod Total
-pub mod Product
-pub mod Search
-pub mod Faults
 pub mod Rank
 pub mod Claims
 pub mod Unique

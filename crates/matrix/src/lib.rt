@@ -1,5 +1,3 @@
-// The parts of document 01's conditions that are neither determinants nor ranks.
+// The matrices of document 01's conditions 1 and 4: the degrees of rows and the leading matrix, and [P(0) C].
 pub mod degree;
-pub mod fault;
-pub mod product;
 pub mod rank;

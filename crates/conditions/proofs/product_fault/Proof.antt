@@ -4,12 +4,12 @@ use Prim.Native.Nat.{_≤_, _<_}
 use native.Mathlib.Omega.{arith}
 use denote.Ref.{now}
 use Rattle.rules.specs.Sizes.{most-rows}
-use Rattle.matrix.specs.Faults.{flat-fault}
+use Rattle.product.specs.Faults.{flat-fault}
 use Rattle.conditions.specs.Applies.{product-verdict}
 use Rattle.conditions.specs.Findings.{fault-place, fault-nowhere, fault-somewhere}
 use Rattle.conditions.proofs.product_fault.Statement.{statement}
 use Rattle.conditions.proofs.product_fault.Tie as tie
-use Rattle.matrix.proofs.fault.first_fault.Reads as first-fault-reads
+use Rattle.product.proofs.fault.first_fault.Reads as first-fault-reads
 
 first-fault-requires : tie.Need-first-fault-requires
 first-fault-requires c κs = search needs

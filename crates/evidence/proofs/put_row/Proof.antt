@@ -5,7 +5,7 @@ use Rattle.evidence.specs.Record.{RowPut, row-start, row-more, row-done}
 use Rattle.evidence.proofs.put_row.Statement.{statement}
 use Rattle.evidence.proofs.put_row.Tie as tie
 use Rattle.evidence.proofs.put4.Reads as put4-reads
-use Rattle.matrix.proofs.fault.order_coefficient.Reads as order-coefficient-reads
+use Rattle.product.proofs.fault.order_coefficient.Reads as order-coefficient-reads
 
 abbrev Inv-loop : tie.InvT-loop
 Inv-loop out₀ at entries lengths f orders p m n i end₀ j₀ out end j = RowPut p entries f orders m n i at out₀ out end j

@@ -5,7 +5,7 @@ use mathlib.Core.Path.{_≡_, ap, _∙_}
 use lib.ListN.{getD}
 use Rattle.rules.specs.Conditions.{sum-below}
 use Rattle.rules.specs.Sizes.{most-rows}
-use Rattle.matrix.specs.Sums.{sum-below-last}
+use Rattle.product.specs.Sums.{sum-below-last}
 use Rattle.board.specs.PartSteps.{size-most}
 use Rattle.board.proofs.part.column_start.Statement.{statement}
 use Rattle.board.proofs.part.column_start.Tie as tie

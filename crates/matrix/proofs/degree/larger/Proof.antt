@@ -2,7 +2,7 @@ use mathlib.Core.Path.{_≡_, sym, ap₂, _∙_}
 use lib.Signed.{leZ}
 use mir.Syntax.{w32}
 use mir.Val.{toZ, ofZ}
-use Rattle.matrix.proofs.Signed.{back, cond-true, cond-false}
+use Rattle.matrix.proofs.Signed.{back}
 use Rattle.matrix.proofs.degree.larger.Statement.{statement}
 use Rattle.matrix.proofs.degree.larger.Tie as tie
 
@@ -11,10 +11,10 @@ test : (s : tie.Start) → leZ (s .args .x) (s .args .y) ≡ leZ (toZ w32 (ofZ w
 test s = sym (ap₂ leZ (back (s .fits .x)) (back (s .fits .y)))
 
 returns : tie.Need-returns
-returns c = back (c .before .fits .y) ∙ sym (cond-true _ _ _ (test (c .before) ∙ c .if1 .taken))
+returns c = rw (test (c .before) ∙ c .if1 .taken) (back (c .before .fits .y))
 
 returns-2 : tie.Need-returns-2
-returns-2 c = back (c .before .fits .x) ∙ sym (cond-false _ _ _ (test (c .before) ∙ c .if1 .left))
+returns-2 c = rw (test (c .before) ∙ c .if1 .left) (back (c .before .fits .x))
 
 pub larger-spec : {M : Type 1} → statement M
 larger-spec = tie.close (tie.spec returns returns-2)

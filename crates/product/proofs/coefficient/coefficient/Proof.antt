@@ -1,0 +1,36 @@
+use mathlib.Core.Path.{sym, ap, _∙_}
+use native.Mathlib.Omega.{arith}
+use Prim.Native.Nat.{_%_}
+use Rattle.algebra.specs.Residue.{red-value}
+use Rattle.rules.specs.Sizes.{largest-prime, most-rows, most-length}
+use Rattle.product.specs.Total.{below-small, within-more}
+use Rattle.product.specs.Product.{product-number, product-residue}
+use Rattle.product.proofs.coefficient.coefficient.Statement.{statement}
+use Rattle.product.proofs.coefficient.coefficient.Tie as tie
+
+entry-total-requires : tie.Need-entry-total-requires
+entry-total-requires c κs =
+    let h = c .pre .0 in (
+      (
+        below-small (c .args .p) (c .args .a .now) (h .modulus-most) (h .entry-below),
+        (below-small (c .args .p) (c .args .f .now) (h .modulus-most) (h .column-below), h .padded),
+      ),
+      c .pre .1 .0,
+    )
+
+residue-requires : tie.Need-residue-requires
+unfolding largest-prime most-rows most-length
+residue-requires c κs =
+    let h = c .before .pre .0 in
+    ((h .modulus-positive, omega (arith, h .modulus-most)), (within-more (c .entry-total .ensures .within) (omega arith), c .before .pre .1 .1))
+
+returns : tie.Need-returns
+returns c =
+    let s = c .before .before in
+    c .residue .ensures
+    ∙ ap (λ n. n % s .args .p) (c .before .entry-total .ensures .total)
+    ∙ sym (red-value (s .args .p) (s .pre .0 .modulus-positive) (product-number (s .args .a .now) (s .args .f .now) (s .args .m) (s .args .i) (s .args .j) (s .args .k)))
+    ∙ ap (λ x. x .0) (product-residue (s .args .p) (s .args .a .now) (s .args .f .now) (s .args .m) (s .args .i) (s .args .j) (s .args .k))
+
+pub coefficient-spec : {M : Type 1} → statement M
+coefficient-spec = tie.close (tie.spec entry-total-requires residue-requires returns)

@@ -1,0 +1,7 @@
+pub mod Sums
+pub mod Total
+pub mod Product
+pub mod Search
+pub mod Faults
+pub mod Claims
+pub mod Unique
