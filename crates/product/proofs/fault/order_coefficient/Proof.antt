@@ -14,7 +14,7 @@ array-read-product-coefficient c = search needs
 product-coefficient-requires : tie.Need-product-coefficient-requires
 product-coefficient-requires c κs =
     let rest = c .pre .1 .1 in
-    (c .pre .0, (rest .0, (rest .1 .0, (rest .1 .1, c .pre .1 .0 (c .args .j)))))
+    (c .pre .0, (rest .0, (rest .1 .0, (rest .1 .1, c .pre .1 .0 _))))
 
 returns : tie.Need-returns
 returns c = search needs
