@@ -38,14 +38,14 @@ module _ (x : Arrays) (c : Claim) (held : Held x c) where
       (grid (c .problem .p) (array-of (c .problem .m) (c .problem .m) (leading-number (x .entries) (x .lengths) (x .shifts) (c .problem .m))))
       (leading-matrix (c .problem) (c .answer .P))
   same-leading =
-      leading-rules (c .problem) (c .answer .P) (x .entries) (x .lengths) (x .columns) (x .orders) (x .shifts) (held .P-held) (held .lengths-held) (held .shifts-held)
+      leading-rules (c .problem) (c .answer .P) (x .entries) (x .lengths) (x .shifts) (held .P-held) (held .lengths-held) (held .shifts-held)
       (held .valid .valid-problem .rows-most)
 
   same-rank : Same (K (c .problem .p)) (c .problem .m) (c .problem .m + c .problem .n)
       (grid (c .problem .p) (array-of (c .problem .m) (c .problem .m + c .problem .n) (rank-number (x .entries) (x .constants) (c .problem .m))))
       (rank-matrix (c .problem) (c .answer .P) (c .answer .C))
   same-rank =
-      rank-rules (c .problem) (c .answer .P) (x .entries) (x .lengths) (x .columns) (x .orders) (x .shifts) (held .P-held) (c .answer .C) (x .constants) (held .C-held)
+      rank-rules (c .problem) (c .answer .P) (x .entries) (x .lengths) (x .shifts) (held .P-held) (c .answer .C) (x .constants) (held .C-held)
       (held .valid .valid-problem .rows-most) (held .valid .valid-problem .columns-most)
 
   -- What the tests over the arrays say of the claim: conditions 1 and 2, …
@@ -73,12 +73,12 @@ module _ (x : Arrays) (c : Claim) (held : Held x c) where
   pub low-of : first-place (c .problem .m) (c .problem .n) (flat-fault false (c .problem .p) (x .entries) (x .columns) (c .problem .m) (x .orders) (x .constants))
       ≡ first-place (c .problem .m) (c .problem .n) (low-fault (c .problem) (c .answer .P))
   low-of =
-      first-low-place (c .problem) (c .answer .P) (x .entries) (x .lengths) (x .columns) (x .orders) (x .shifts) (held .P-held) (held .F-held) (held .orders-held) (x .constants)
+      first-low-place (c .problem) (c .answer .P) (x .entries) (x .columns) (x .orders) (held .P-held) (held .F-held) (held .orders-held) (x .constants)
 
   pub order-of : first-place (c .problem .m) (c .problem .n) (flat-fault true (c .problem .p) (x .entries) (x .columns) (c .problem .m) (x .orders) (x .constants))
       ≡ first-place (c .problem .m) (c .problem .n) (order-fault (c .problem) (c .answer .P) (c .answer .C))
   order-of =
-      first-order-place (c .problem) (c .answer .P) (x .entries) (x .lengths) (x .columns) (x .orders) (x .shifts) (held .P-held) (held .F-held) (held .orders-held)
+      first-order-place (c .problem) (c .answer .P) (x .entries) (x .columns) (x .orders) (held .P-held) (held .F-held) (held .orders-held)
       (c .answer .C) (x .constants) (held .C-held)
 
   -- … condition 4 and the degree sum.
@@ -96,4 +96,4 @@ module _ (x : Arrays) (c : Claim) (held : Held x c) where
 
   pub same-degree-sum : flat-degree-sum (x .lengths) (x .shifts) (c .problem .m) ≡ degree-sum (c .problem) (c .answer .P)
   same-degree-sum =
-      degree-sum-rules (c .problem) (c .answer .P) (x .entries) (x .lengths) (x .columns) (x .orders) (x .shifts) (held .lengths-held) (held .shifts-held)
+      degree-sum-rules (c .problem) (c .answer .P) (x .entries) (x .lengths) (x .shifts) (held .lengths-held) (held .shifts-held)

@@ -30,7 +30,7 @@ largest-cong zero f g h = h zero (omega arith)
 largest-cong (suc n) f g h =
     ap₂ maxZ (h zero (omega arith)) (largest-cong n (λ j. f (suc j)) (λ j. g (suc j)) (λ j b. h (suc j) (suc-le-suc b)))
 
-module _ (b : Problem) (P : List (List (List ℕ))) (a lengths f orders : List ℕ) (shifts : List ℤ) where
+module _ (b : Problem) (P : List (List (List ℕ))) (a lengths : List ℕ) (shifts : List ℤ) where
   -- Condition 1: the degrees of the rows and their sum …
   pub row-degree-rules : EntryLengths b P lengths → Shifts b shifts → (i : ℕ) → i < b .m → flat-row-degree lengths shifts (b .m) i ≡ row-degree b P i
   unfolding flat-row-degree row-degree entry-term length-degree degree

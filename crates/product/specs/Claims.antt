@@ -7,7 +7,6 @@ use mathlib.Core.Bool.{true, false, not}
 use mathlib.Core.List.{List}
 use Prim.Native.Nat.{ℕ, _<_}
 use lib.Dec.{eqb}
-use lib.IntN.{ℤ}
 use Rattle.algebra.specs.Residue.{K, red}
 use Rattle.algebra.specs.Series.{Series}
 use Rattle.algebra.specs.Matrix.{vmul-cong, mmul}
@@ -21,7 +20,7 @@ use Rattle.product.specs.Product.{flat-product}
 use Rattle.product.specs.Faults.{low-test, flat-low-fault, flat-order-fault, flat-fault}
 use Rattle.product.specs.Search.{some-below-cong, first-place-cong}
 
-module _ (b : Problem) (P : List (List (List ℕ))) (a lengths f orders : List ℕ) (shifts : List ℤ) where
+module _ (b : Problem) (P : List (List (List ℕ))) (a f orders : List ℕ) where
   -- Condition 3: the coefficients of the product …
   pub product-rules : EntryCells b P a → ColumnCells b f → (i j : ℕ) → i < b .m → j < b .n → (k : ℕ)
       → flat-product (b .p) a f (b .m) i j k ≡ product b P i j k
