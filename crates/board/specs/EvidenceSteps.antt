@@ -9,7 +9,7 @@ use mathlib.Core.List.{List, [], _∷_, _++_}
 use Prim.Native.Nat.{ℕ, zero, suc, _+_, _*_, _≤_, _<_, suc-le-suc, zero-le}
 use native.Mathlib.Nat.{zero-add, mul-le-mul-right}
 use native.Mathlib.Omega.{arith}
-use lib.ListN.{length, getD, drop, take-append-drop}
+use lib.ListN.{length, getD, take, drop, take-append-drop}
 use Rattle.rules.specs.Sizes.{most-rows}
 use Rattle.rules.specs.Claim.{Problem}
 use Rattle.rules.specs.Reader.{Place, Refusal, refused, got, next, front}
@@ -27,7 +27,7 @@ use Rattle.reader.specs.declared.Answer.{Answer as ReadAnswer}
 use Rattle.reader.specs.Flat.{filled, cells, entry-cells, coefficients, list-into, columns-into, entries-into}
 use Rattle.reader.specs.Storing.{into, into-got, into-refused}
 use Rattle.reader.specs.Values.{problem-value, answer-value, answer-of, only, without-evidence}
-use Rattle.layout.specs.Appended.{Appended}
+use Rattle.writer.specs.Appended.{Appended, appended-nothing, appended-unique}
 use Rattle.product.specs.Product.{flat-product, Factors}
 use Rattle.product.specs.Faults.{Ordered}
 use Rattle.layout.specs.Holds.{EntryCells, ColumnCells, Orders}
@@ -52,7 +52,7 @@ flat-evidence-is b P a f orders ha hf ho =
     table-cong (b .m) (row-numbers (b .p) a f orders (b .m) (b .n)) (λ i. table (b .n) (λ j. product b P i j (order b j) .0))
     (λ i hi. table-cong (b .n) (λ j. flat-product (b .p) a f (b .m) i j (getD orders j 0) .0) (λ j. product b P i j (order b j) .0)
     (λ j hj. ap (λ d. flat-product (b .p) a f (b .m) i j d .0) (ho j hj)
-    ∙ ap (λ x. x .0) (product-rules b P a [] f orders [] ha hf i j hi hj (order b j))))
+    ∙ ap (λ x. x .0) (product-rules b P a f orders ha hf i j hi hj (order b j))))
 
 -- A text put at the front of an array.
 appended-front : (lent after : List ℕ) (end : ℕ) (text : List ℕ) → Appended lent after 0 end text → after ≡ text ++ drop end lent
@@ -157,11 +157,6 @@ module _ (s t lent : List ℕ) (r : ReadProblem) (x : ReadAnswer) (both : BothRe
   both-sizes =
       subst (λ (r : ReadProblem). (r .m ≤ most-rows) × (r .n ≤ most-rows)) (sym (both .holds)) (both-valid .0 .rows-most, both-valid .0 .columns-most)
 
-  -- The bytes needed.
-  both-size : 2 + 4 * r .m * r .n ≡ evidence-size (both .problem)
-  unfolding problem-value
-  both-size = ap (λ (r : ReadProblem). 2 + 4 * r .m * r .n) (both .holds)
-
   -- The numbers made.
   both-evidence : flat-of r x ≡ evidence-of (both .problem) (both .basis)
   unfolding problem-value answer-value
@@ -171,21 +166,25 @@ module _ (s t lent : List ℕ) (r : ReadProblem) (x : ReadAnswer) (both : BothRe
       (list-into (filled most-rows 0) (both .problem .orders)) (filled-entries (both .problem) (both .basis) (both-valid .0) (both-valid .1))
       (filled-columns (both .problem) (both-valid .0)) (filled-orders-held (both .problem) (both-valid .0))
 
-  -- The buffer is too small.
-  pub room-lacks : length lent < 2 + 4 * r .m * r .n → make-evidence s t lent ≡ record { answer = no-room (2 + 4 * r .m * r .n); buffer = lent }
-  room-lacks h =
-      evidence-no-room s t lent (both .read) (subst (λ k. length lent < k) both-size h) ∙ ap (λ (k : ℕ). record { answer = no-room k; buffer = lent }) (sym both-size)
-
-  module _ (after : List ℕ) (end : ℕ) (put : Appended lent after 0 end (write-CE (flat-of r x))) where
+  -- The record is made in an array of its own, and then its first `count` bytes are put at the buffer's front.
+  module _ (room made : List ℕ) (end : ℕ) (put : Appended room made 0 end (write-CE (flat-of r x))) (after : List ℕ) (count last : ℕ) (front : Appended lent after 0 last (take count made)) where
     -- The record ends after the bytes needed.
-    pub evidence-ends : end ≡ 2 + 4 * r .m * r .n
+    evidence-ends : end ≡ evidence-size (both .problem)
     evidence-ends =
-        put .ends ∙ zero-add (length (write-CE (flat-of r x))) ∙ ap (λ l. length (write-CE l)) both-evidence ∙ length-evidence (both .problem) (both .basis) ∙ sym both-size
+        put .ends ∙ zero-add (length (write-CE (flat-of r x))) ∙ ap (λ l. length (write-CE l)) both-evidence ∙ length-evidence (both .problem) (both .basis)
 
-    -- The record is put at the buffer's front.
-    pub evidence-put : 2 + 4 * r .m * r .n ≤ length lent → make-evidence s t lent ≡ record { answer = written end; buffer = after }
-    evidence-put h =
-        let size : evidence-size (both .problem) ≡ end = sym (evidence-ends ∙ both-size) in
-        evidence-made s t lent (both .read) (subst (λ k. k ≤ length lent) both-size h)
-        ∙ ap₂ (λ (k : ℕ) (l : List ℕ). record { answer = written k; buffer = l }) size
-        (ap₂ (λ l k. write-CE l ++ drop k lent) (sym both-evidence) size ∙ sym (appended-front lent after end (write-CE (flat-of r x)) put))
+    -- The buffer is too small, and nothing is put there.
+    pub room-lacks : length lent < end → count ≡ 0 → make-evidence s t lent ≡ record { answer = no-room end; buffer = after }
+    room-lacks h e =
+        evidence-no-room s t lent (both .read) (subst (λ k. length lent < k) evidence-ends h)
+        ∙ ap₂ (λ (k : ℕ) (l : List ℕ). record { answer = no-room k; buffer = l }) (sym evidence-ends)
+        (appended-unique lent lent after 0 0 last [] (appended-nothing lent 0) (subst (λ k. Appended lent after 0 last (take k made)) e front) .1)
+
+    -- The buffer is large enough, and the whole record is put there.
+    pub evidence-put : end ≤ length lent → count ≡ end → make-evidence s t lent ≡ record { answer = written end; buffer = after }
+    evidence-put h e =
+        let all : Appended lent after 0 last (write-CE (flat-of r x)) = subst (Appended lent after 0 last) (ap (λ k. take k made) e ∙ put .holds) front in
+        let whole : Appended lent after 0 end (write-CE (flat-of r x)) = subst (λ k. Appended lent after 0 k (write-CE (flat-of r x))) (all .ends ∙ sym (put .ends)) all in
+        evidence-made s t lent (both .read) (subst (λ k. k ≤ length lent) evidence-ends h)
+        ∙ ap₂ (λ (k : ℕ) (l : List ℕ). record { answer = written k; buffer = l }) (sym evidence-ends)
+        (ap₂ (λ l k. write-CE l ++ drop k lent) (sym both-evidence) (sym evidence-ends) ∙ sym (appended-front lent after end (write-CE (flat-of r x)) whole))

@@ -12,10 +12,12 @@ use crate::part::cut;
 use crate::part::span;
 use conditions::conditions;
 use evidence::put_evidence;
+use layout::RECORD;
 use reader::read_answer;
 use reader::read_problem;
 use verdict::Verdict;
 use verdict::pack;
+use writer::put_text;
 
 // The verdict on two files.
 pub fn judge_files(problem: &[u8], answer: &[u8]) -> Verdict
@@ -50,7 +52,7 @@ pub extern "C" fn judge(problem: &[u8], answer: &[u8]) -> u64
     pack(judge_files(problem, answer))
 }
 
-// Makes the evidence of a basis into a lent buffer: what is answered.
+// Makes the evidence of a basis into a lent buffer: what is answered. The record is made whole before a byte of the buffer is touched.
 pub fn evidence_files(problem: &[u8], answer: &[u8], buffer: &mut [u8]) -> Verdict
     ensures { λ r. ⌜ meant r ≡ make-evidence (now (problem .entry)) (now (answer .entry)) (now (buffer .entry)) .answer ⌝ }
     ensures { λ r. ⌜ now (buffer .exit) ≡ make-evidence (now (problem .entry)) (now (answer .entry)) (now (buffer .entry)) .buffer ⌝ }
@@ -63,12 +65,9 @@ pub fn evidence_files(problem: &[u8], answer: &[u8], buffer: &mut [u8]) -> Verdi
     if !a.ok {
         return Verdict::Unread(a.refusal);
     }
-    let needed = 2 + 4 * b.m * b.n;
-    if buffer.len() < needed {
-        return Verdict::NoRoom(needed as u32);
-    }
-    let written = put_evidence(
-        buffer,
+    let mut record = [0u8; RECORD];
+    let needed = put_evidence(
+        &mut record,
         &a.entries,
         &a.lengths,
         &b.f,
@@ -77,7 +76,13 @@ pub fn evidence_files(problem: &[u8], answer: &[u8], buffer: &mut [u8]) -> Verdi
         b.m,
         b.n,
     );
-    Verdict::Written(written as u32)
+    let count = if buffer.len() < needed { 0 } else { needed };
+    put_text(buffer, 0, &record[..count]);
+    let at = needed as u32;
+    if count < needed {
+        return Verdict::NoRoom(at);
+    }
+    Verdict::Written(at)
 }
 
 // The same, for a host that is written in C.

@@ -7,6 +7,7 @@ ghost use mathlib.Core.Path.{_≡_};
 ghost use Prim.Native.Nat.{_+_, _*_, _≤_, _<_};
 ghost use lib.ListN.{length};
 use libc::STDOUT_FILENO;
+use writer::put_text;
 
 // The longest file of a case.
 const LONGEST: usize = 65536;
@@ -68,19 +69,6 @@ fn write_hex(bytes: &[u8]) {
         write_chunk(&bytes[at..end]);
         at = end;
     }
-}
-
-// Puts `text` at `at` and gives the place after it.
-fn put_text(out: &mut [u8], at: usize, text: &[u8]) -> usize
-    requires { ⌜ at + length (now text) ≤ length (now out) ⌝ }
-    ensures { λ r. ⌜ r ≡ at + length (now (text .entry)) ⌝ }
-{
-    let mut i = 0;
-    while i < text.len() {
-        out[at + i] = text[i];
-        i += 1;
-    }
-    at + i
 }
 
 // Puts a space and the decimal digits of `n` at `at` and gives the place after them.

@@ -1,14 +1,14 @@
 -- The `CE` record over the flat arrays, and how it grows number by number.
 use mathlib.Core.Path.{_≡_, refl, sym, ap, ap₂, subst, _∙_}
 use mathlib.Core.List.{List, [], _∷_, _++_, append-nil, append-assoc}
-use Prim.Native.Nat.{ℕ, zero, suc, _+_, _*_, _/_, _%_, _≤_, _<_, zero-le}
-use native.Mathlib.Nat.{add-assoc, div-div-eq-div-mul, le-antisymm, mul-le-mul-right}
+use Prim.Native.Nat.{ℕ, zero, suc, _+_, _*_, _≤_, _<_, zero-le}
+use native.Mathlib.Nat.{le-antisymm, mul-le-mul-right}
 use native.Mathlib.Numerals.{add-one}
 use native.Mathlib.Omega.{arith}
-use lib.ListN.{length, getD, set, length-append}
+use lib.ListN.{length, getD, length-append}
 use Rattle.rules.specs.Writer.{bytes, write-each, write-all, write-CE}
 use Rattle.rules.specs.Evidence.{table}
-use Rattle.layout.specs.Appended.{Appended, appended-nothing, appended-byte, appended-both, appended-push}
+use Rattle.writer.specs.Appended.{Appended, appended-nothing, appended-both}
 use Rattle.rules.specs.ByteNumbers.{length-bytes}
 use Rattle.product.specs.Product.{flat-product}
 
@@ -36,25 +36,6 @@ write-more w i (y ∷ l) x = ap (λ r. w y ++ r) (write-more w (suc i) l x) ∙ 
 -- What is written of a table grows by its last member.
 pub write-table : {A : Type 0} (w : A → List ℕ) (n : ℕ) (g : ℕ → A) → write-all w (table (n + 1) g) ≡ write-all w (table n g) ++ w (g n)
 write-table w n g = ap (write-all w) (table-last n g) ∙ write-more w 0 (table n g) (g n)
-
-push : (l l′ : List ℕ) (at k b : ℕ) (t : List ℕ) → at + k < length l → Appended l l′ at (at + k) t → Appended l (set l′ (at + k) b) at (at + (k + 1)) (t ++ (b ∷ []))
-push l l′ at k b t h x = subst (λ e. Appended l (set l′ (at + k) b) at e (t ++ (b ∷ []))) (add-assoc at k 1) (appended-push l l′ at (at + k) b t h x)
-
--- Four bytes, one after the other.
-pub four-bytes : (l : List ℕ) (at v : ℕ) → at + 4 ≤ length l
-    → Appended l (set (set (set (set l at (v % 256)) (at + 1) (v / 256 % 256)) (at + 2) (v / 65_536 % 256)) (at + 3) (v / 16_777_216 % 256)) at (at + 4) (bytes 4 v)
-unfolding bytes
-four-bytes l at v h =
-    subst (Appended l (set (set (set (set l at (v % 256)) (at + 1) (v / 256 % 256)) (at + 2) (v / 65_536 % 256)) (at + 3) (v / 16_777_216 % 256)) at (at + 4))
-    (ap₂ (λ y z. v % 256 ∷ v / 256 % 256 ∷ y % 256 ∷ z % 256 ∷ []) (sym (div-div-eq-div-mul v 256 256))
-    (sym (ap (λ y. y / 256) (div-div-eq-div-mul v 256 256) ∙ div-div-eq-div-mul v 65_536 256)))
-    (push l (set (set (set l at (v % 256)) (at + 1) (v / 256 % 256)) (at + 2) (v / 65_536 % 256)) at 3 (v / 16_777_216 % 256) (v % 256 ∷ v / 256 % 256 ∷ v / 65_536 % 256 ∷ []) (omega arith)
-    (push l (set (set l at (v % 256)) (at + 1) (v / 256 % 256)) at 2 (v / 65_536 % 256) (v % 256 ∷ v / 256 % 256 ∷ []) (omega arith)
-    (push l (set l at (v % 256)) at 1 (v / 256 % 256) (v % 256 ∷ []) (omega arith) (appended-byte l at (v % 256) (omega arith)))))
-
--- The mark.
-pub two-bytes : (l : List ℕ) → 2 ≤ length l → Appended l (set (set l 0 0x43) 1 0x45) 0 2 mark-bytes
-two-bytes l h = push l (set l 0 0x43) 0 1 0x45 (0x43 ∷ []) (omega arith) (appended-byte l 0 0x43 (omega arith))
 
 -- The first j numbers of row i are put.
 pub record RowPut (p : ℕ) (a f orders : List ℕ) (m n i at : ℕ) (before after : List ℕ) (end j : ℕ) : Type 0 where

@@ -1,39 +1,18 @@
 // The `CE` record of the evidence that a basis has, written into a lent buffer. `entries` and `lengths` hold P, `f` holds F.
-ghost use mathlib.Core.Path.{_≡_};
 ghost use Prim.Native.Nat.{_+_, _*_, _≤_, _<_};
 ghost use lib.ListN.{length};
 ghost use Rattle.rules.specs.Sizes.{most-rows};
 ghost use Rattle.rules.specs.Writer.{bytes, write-all, write-CE};
-ghost use Rattle.layout.specs.Appended.{Appended};
+ghost use Rattle.writer.specs.Appended.{Appended};
 ghost use Rattle.product.specs.Product.{Factors};
 ghost use Rattle.product.specs.Faults.{Ordered};
-ghost use Rattle.evidence.specs.Record.{mark-bytes, row-numbers, flat-evidence};
+ghost use Rattle.evidence.specs.Record.{row-numbers, flat-evidence};
 use layout::COLUMN_COEFFICIENTS;
 use layout::ENTRY_COEFFICIENTS;
 use layout::ROWS;
 use layout::SQUARE;
-
-// Puts `v` at `at`, four bytes, low byte first, and gives the place after it.
-fn put4(out: &mut [u8], at: usize, v: u32) -> usize
-    requires { ⌜ at + 4 ≤ length (now out) ⌝ }
-    ensures { λ r. ⌜ Appended (now (out .entry)) (now (out .exit)) at r (bytes 4 v) ⌝ }
-{
-    out[at] = (v % 256) as u8;
-    out[at + 1] = (v / 256 % 256) as u8;
-    out[at + 2] = (v / 65536 % 256) as u8;
-    out[at + 3] = (v / 16777216 % 256) as u8;
-    at + 4
-}
-
-// Puts the mark of the record at the front and gives the place after it.
-fn put_mark(out: &mut [u8]) -> usize
-    requires { ⌜ 2 ≤ length (now out) ⌝ }
-    ensures { λ r. ⌜ Appended (now (out .entry)) (now (out .exit)) 0 r mark-bytes ⌝ }
-{
-    out[0] = 0x43;
-    out[1] = 0x45;
-    2
-}
+use writer::put_text;
+use writer::put4;
 
 // Puts the numbers of row i at `at` and gives the place after them.
 fn put_row<'a, 'b>(
@@ -81,7 +60,7 @@ pub fn put_evidence<'a, 'b>(
     requires { ⌜ 2 + 4 * m * n ≤ length (now out) ⌝ }
     ensures { λ r. ⌜ Appended (now (out .entry)) (now (out .exit)) 0 r (write-CE (flat-evidence p (now (entries .entry)) (now (f .entry)) orders m n)) ⌝ }
 {
-    let mut end = put_mark(out);
+    let mut end = put_text(out, 0, b"CE");
     let mut i = 0;
     while i < m {
         end = put_row(out, end, entries, lengths, f, orders, p, m, n, i);

@@ -1,5 +1,4 @@
 pub mod Flat
 pub mod Holds
-pub mod Appended
 pub mod Settles
 pub mod Words

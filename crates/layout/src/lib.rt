@@ -28,6 +28,9 @@ pub const ENTRY_COEFFICIENTS: usize = SQUARE * LENGTH;
 
 pub const COLUMN_COEFFICIENTS: usize = SQUARE * ORDER;
 
+// The bytes of the longest `CE` record: its mark, and four for each number.
+pub const RECORD: usize = 2 + 4 * SQUARE;
+
 // Where the number of row i and column j stands in an array with one number for each entry.
 pub fn square_place(i: usize, j: usize) -> usize
     requires { ⌜ (i < most-rows) × (j < most-rows) ⌝ }

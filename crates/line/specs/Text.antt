@@ -10,7 +10,7 @@ use borrow.Author.Tests.{lt-ltb, le-ltb, eq-eqb, ne-eqb}
 use Rattle.rules.specs.Print.{digits, digits-within, space, pass-word, refuse-word, line-of}
 use lib.ListN.{length, set, length-append}
 use Rattle.rules.specs.Verdict.{Numbers, four}
-use Rattle.layout.specs.Appended.{Appended, appended-byte, appended-both}
+use Rattle.writer.specs.Appended.{Appended, appended-byte, appended-both}
 
 -- What a line needs at most.
 abbrev pub room : ℕ

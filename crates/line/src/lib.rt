@@ -5,7 +5,8 @@ ghost use Prim.Native.Nat.{_+_, _≤_, _<_};
 ghost use lib.ListN.{length, take};
 ghost use Rattle.rules.specs.Print.{digits, space, line-of};
 ghost use Rattle.line.specs.Text.{room, four-numbers, unpacked};
-ghost use Rattle.layout.specs.Appended.{Appended};
+ghost use Rattle.writer.specs.Appended.{Appended};
+use writer::put_text;
 
 // What a line needs at most: a word, four numbers, three spaces and a line feed.
 pub const ROOM: usize = 40;
@@ -22,19 +23,6 @@ fn put_number(out: &mut [u8], at: usize, n: u32) -> usize
     let next = put_number(out, at, n / 10);
     out[next] = 48 + (n % 10) as u8;
     next + 1
-}
-
-// Puts `text` at `at` and gives the place after it.
-fn put_text(out: &mut [u8], at: usize, text: &[u8]) -> usize
-    requires { ⌜ at + length (now text) ≤ length (now out) ⌝ }
-    ensures { λ r. ⌜ Appended (now (out .entry)) (now (out .exit)) at r (now (text .entry)) ⌝ }
-{
-    let mut i = 0;
-    while i < text.len() {
-        out[at + i] = text[i];
-        i += 1;
-    }
-    at + i
 }
 
 // Puts a space and the decimal digits of `n` at `at` and gives the place after them.

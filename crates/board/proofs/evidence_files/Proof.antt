@@ -1,17 +1,21 @@
 use borrow.Author.Needs.{needs}
 use borrow.Author.Tests.{not-true, not-false}
+use mathlib.Core.Logic.{⊎-elim}
 use mathlib.Core.Path.{sym, ap}
-use Prim.Native.Nat.{_*_, _≤_}
+use Prim.Native.Nat.{_≤_, zero-le}
 use native.Mathlib.Omega.{arith}
 use denote.Ref.{now}
+use lib.ListN.{length, length-take}
 use Rattle.rules.specs.Sizes.{most-rows}
 use Rattle.rules.specs.Evidence.{Made}
-use Rattle.board.specs.EvidenceSteps.{BothRead, both-read, problem-unread, read-sizes, answer-unread, both-factors, both-ordered, both-sizes, evidence-most, room-lacks, evidence-ends, evidence-put}
+use Rattle.writer.specs.Appended.{appended-within}
+use Rattle.board.specs.EvidenceSteps.{BothRead, both-read, problem-unread, read-sizes, answer-unread, both-factors, both-ordered, both-sizes, evidence-most, room-lacks, evidence-put}
 use Rattle.board.proofs.evidence_files.Statement.{statement}
 use Rattle.board.proofs.evidence_files.Tie as tie
 use Rattle.evidence.proofs.put_evidence.Reads as put-evidence-reads
 use Rattle.reader.proofs.read_answer.Reads as read-answer-reads
 use Rattle.reader.proofs.read_problem.Reads as read-problem-reads
+use Rattle.writer.proofs.put_text.Reads as put-text-reads
 
 read-problem-requires : tie.Need-read-problem-requires
 read-problem-requires c κs = search needs
@@ -47,62 +51,79 @@ both c =
     both-read (now (a .problem)) (now (a .answer)) (now (a .buffer)) (b .result) (b .ensures) (not-false (b .result .ok) (c .before .before .if1 .left)) (x .result) (x .ensures)
     (not-false (x .result .ok) (c .if2 .left))
 
-sizes : (c : tie.Else2) → (c .before .before .before .read-problem .result .m ≤ most-rows) × (c .before .before .before .read-problem .result .n ≤ most-rows)
-sizes c =
-    let a = c .before .before .before .before .before .before .before .args in
-    both-sizes (now (a .problem)) (now (a .answer)) (now (a .buffer)) (c .before .before .before .read-problem .result) (c .before .read-answer .result) (both c)
-
-small : (c : tie.Else2) → 4 * c .before .before .before .read-problem .result .m * c .before .before .before .read-problem .result .n ≤ 64
-small c = evidence-most (c .before .before .before .read-problem .result .m) (c .before .before .before .read-problem .result .n) (sizes c .0) (sizes c .1)
-
-mul-needed : tie.Need-mul-needed
-unfolding most-rows
-mul-needed c = omega (arith, sizes c .0)
-
-mul-needed-2 : tie.Need-mul-needed-2
-mul-needed-2 c = omega (arith, small c)
-
-add-needed : tie.Need-add-needed
-add-needed c = omega (arith, small c)
-
-cast-t19 : tie.Need-cast-t19
-cast-t19 c = omega (arith, small (c .before))
-
-returns-3 : tie.Need-returns-3
-returns-3 c =
-    let a = c .before .before .before .before .before .before .before .before .args in
-    let e = room-lacks (now (a .problem)) (now (a .answer)) (now (a .buffer)) (c .before .before .before .before .read-problem .result) (c .before .before .read-answer .result) (both (c .before)) (c .if3 .taken) in
-    (sym (ap (λ (x : Made). x .answer) e), sym (ap (λ (x : Made). x .buffer) e))
+slice-aggregate-put-evidence : tie.Need-slice-aggregate-put-evidence
+slice-aggregate-put-evidence c = search needs
 
 put-evidence-requires : tie.Need-put-evidence-requires
 put-evidence-requires c κs =
-    let a = c .before .before .before .before .before .before .before .before .before .before .before .before .before .before .before .args in
-    let b = c .before .before .before .before .before .before .before .before .before .before .before .read-problem .result in
-    let x = c .before .before .before .before .before .before .before .before .before .read-answer .result in
-    let d = both (c .before .before .before .before .before .before .before .before) in (
-      both-factors (now (a .problem)) (now (a .answer)) (now (a .buffer)) b x d,
+    let d = c .before .before .before .before .before .before .before in
+    let a = d .before .before .before .before .before .before .before .args in
+    let b = d .before .before .before .read-problem .result in
+    let x = d .before .read-answer .result in
+    let sizes : (b .m ≤ most-rows) × (b .n ≤ most-rows) = both-sizes (now (a .problem)) (now (a .answer)) (now (a .buffer)) b x (both d) in (
+      both-factors (now (a .problem)) (now (a .answer)) (now (a .buffer)) b x (both d),
       (
-        both-ordered (now (a .problem)) (now (a .answer)) (now (a .buffer)) b x d,
-        (both-sizes (now (a .problem)) (now (a .answer)) (now (a .buffer)) b x d, c .before .before .before .before .before .before .before .if3 .left),
+        both-ordered (now (a .problem)) (now (a .answer)) (now (a .buffer)) b x (both d),
+        (sizes, omega (arith, evidence-most (b .m) (b .n) (sizes .0) (sizes .1))),
       ),
     )
 
-cast-t13 : tie.Need-cast-t13
-cast-t13 c =
-    let a = c .before .before .before .before .before .before .before .before .before .before .before .before .before .before .before .before .before .before .args in
-    let put = c .before .before .put-evidence in
-    omega (arith, small (c .before .before .before .before .before .before .before .before .before .before .before), evidence-ends (now (a .problem)) (now (a .answer)) (now (a .buffer)) (c .before .before .before .before .before .before .before .before .before .before .before .before .before .before .read-problem .result) (c .before .before .before .before .before .before .before .before .before .before .before .before .read-answer .result) (both (c .before .before .before .before .before .before .before .before .before .before .before)) (put .last .0) (put .result) (put .ensures))
+-- The record lies within its array.
+within : (c : tie.After-put-evidence) → c .put-evidence .result ≤ length (c .put-evidence .last .0)
+within c = appended-within _ (c .put-evidence .last .0) 0 (c .put-evidence .result) _ zero-le (c .put-evidence .ensures)
+
+-- What is put of it lies within the array, and within the buffer.
+fits : (c : tie.Joined3) → let start = c .before .before .before .before .before .before .before .before .before .before .before .before .before .before .before .before .before in
+    (c .if3 .count ≤ length (c .before .before .put-evidence .last .0)) × (c .if3 .count ≤ length (now (start .args .buffer)))
+fits c =
+    let made = within (c .before .before) in
+    ⊎-elim (λ w. (omega arith, omega arith)) (λ w. (omega arith, omega arith)) (c .if3 .came)
+
+array-share-prefix-record : tie.Need-array-share-prefix-record
+array-share-prefix-record c = omega (arith, fits (c .before) .0)
+
+slice-aggregate-put-text : tie.Need-slice-aggregate-put-text
+slice-aggregate-put-text c = simp length-take (omega (arith, fits (c .before .before) .0))
+
+put-text-requires : tie.Need-put-text-requires
+put-text-requires c κs = simp length-take (omega (arith, fits (c .before .before) .0, fits (c .before .before) .1))
+
+cast-at : tie.Need-cast-at
+cast-at c = omega (arith, within (c .before .before .before .before .before .before .before))
 
 same-length : tie.Need-same-length
 same-length c = search needs
 
+returns-3 : tie.Need-returns-3
+returns-3 c =
+    let put = c .before .before .before .before .before .before .before .before .put-evidence in
+    let front = c .before .before .before .put-text in
+    let d = c .before .before .before .before .before .before .before .before .before .before .before .before .before .before .before .before in
+    let a = d .before .before .before .before .before .before .before .args in
+    ⊎-elim
+    (λ w.
+    let e = room-lacks (now (a .problem)) (now (a .answer)) (now (a .buffer)) (d .before .before .before .read-problem .result) (d .before .read-answer .result) (both d) _ (put .last .0) (put .result) (put .ensures) (front .last .0) (c .before .before .before .before .before .before .if3 .count) (front .result) (front .ensures)
+    (omega arith) (omega arith) in
+    (sym (ap (λ (x : Made). x .answer) e), sym (ap (λ (x : Made). x .buffer) e)))
+    (λ w. absurd (omega arith))
+    (c .before .before .before .before .before .before .if3 .came)
+
+same-length-2 : tie.Need-same-length-2
+same-length-2 c = search needs
+
 returns-4 : tie.Need-returns-4
 returns-4 c =
-    let a = c .before .before .before .before .before .before .before .before .before .before .before .before .before .before .before .before .before .before .args in
-    let put = c .before .before .put-evidence in
-    let e = evidence-put (now (a .problem)) (now (a .answer)) (now (a .buffer)) (c .before .before .before .before .before .before .before .before .before .before .before .before .before .before .read-problem .result) (c .before .before .before .before .before .before .before .before .before .before .before .before .read-answer .result) (both (c .before .before .before .before .before .before .before .before .before .before .before)) (put .last .0) (put .result) (put .ensures)
-    (c .before .before .before .before .before .before .before .before .before .before .if3 .left) in
-    (sym (ap (λ (x : Made). x .answer) e), sym (ap (λ (x : Made). x .buffer) e))
+    let put = c .before .before .before .before .before .before .before .before .put-evidence in
+    let front = c .before .before .before .put-text in
+    let d = c .before .before .before .before .before .before .before .before .before .before .before .before .before .before .before .before in
+    let a = d .before .before .before .before .before .before .before .args in
+    ⊎-elim
+    (λ w. absurd (omega arith))
+    (λ w.
+    let e = evidence-put (now (a .problem)) (now (a .answer)) (now (a .buffer)) (d .before .before .before .read-problem .result) (d .before .read-answer .result) (both d) _ (put .last .0) (put .result) (put .ensures) (front .last .0) (c .before .before .before .before .before .before .if3 .count) (front .result) (front .ensures)
+    (omega arith) (omega arith) in
+    (sym (ap (λ (x : Made). x .answer) e), sym (ap (λ (x : Made). x .buffer) e)))
+    (c .before .before .before .before .before .before .if3 .came)
 
 pub evidence-files-spec : {M : Type 1} → statement M
 evidence-files-spec =
@@ -112,12 +133,13 @@ evidence-files-spec =
     returns
     read-answer-requires
     returns-2
-    mul-needed
-    mul-needed-2
-    add-needed
-    cast-t19
-    returns-3
+    slice-aggregate-put-evidence
     put-evidence-requires
-    cast-t13
+    array-share-prefix-record
+    slice-aggregate-put-text
+    put-text-requires
+    cast-at
     same-length
+    returns-3
+    same-length-2
     returns-4)

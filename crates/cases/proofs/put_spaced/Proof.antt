@@ -30,7 +30,7 @@ same-length : tie.Need-same-length
 same-length c = search needs
 
 returns : tie.Need-returns
-returns c = omega (arith, simp length-take at (c .before .before .put-text2 .ensures))
+returns c = omega (arith, simp length-take at (c .before .before .put-text2 .ensures .ends))
 
 pub put-spaced-spec : {M : Type 1} → statement M
 put-spaced-spec =

@@ -1,7 +1,7 @@
 -- `cases::write_verdict` is safe and ends: the line ends within its room.
 use borrow.Author.Needs.{needs}
 use Prim.Native.Nat.{zero-le}
-use Rattle.layout.specs.Appended.{appended-within}
+use Rattle.writer.specs.Appended.{appended-within}
 use lib.ListN.{length-take}
 use native.Mathlib.Omega.{arith}
 use Rattle.cases.proofs.write_verdict.Statement.{statement}

@@ -4,7 +4,7 @@ use native.Mathlib.Omega.{arith}
 use Rattle.evidence.specs.Record.{RowPut, row-start, row-more, row-done}
 use Rattle.evidence.proofs.put_row.Statement.{statement}
 use Rattle.evidence.proofs.put_row.Tie as tie
-use Rattle.evidence.proofs.put4.Reads as put4-reads
+use Rattle.writer.proofs.put4.Reads as put4-reads
 use Rattle.product.proofs.fault.order_coefficient.Reads as order-coefficient-reads
 
 abbrev Inv-loop : tie.InvT-loop

@@ -1,6 +1,6 @@
 use borrow.Author.Needs.{needs}
 use Prim.Native.Nat.{zero-le}
-use Rattle.layout.specs.Appended.{appended-within}
+use Rattle.writer.specs.Appended.{appended-within}
 use Rattle.judge.specs.Loads.{part-length}
 use Rattle.judge.proofs.judge.Statement.{statement}
 use Rattle.judge.proofs.judge.Tie as tie

@@ -4,7 +4,7 @@ use Prim.Native.Nat.{ℕ, _+_, _<_}
 use native.Mathlib.Omega.{arith}
 use lib.ListN.{length, set, length-set}
 use Rattle.line.specs.Text.{appended-digit, digits-small, digits-more}
-use Rattle.layout.specs.Appended.{Appended, appended-byte}
+use Rattle.writer.specs.Appended.{Appended, appended-byte}
 use borrow.Fn.Kinds.{In}
 use borrow.Fn.PlainCycle.{Measures, is, falls, and}
 use Rattle.line.proofs.put_number.Reads as put-number

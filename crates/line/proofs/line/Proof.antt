@@ -1,7 +1,7 @@
 use borrow.Author.Needs.{needs}
 use native.Mathlib.Omega.{arith}
 use Rattle.line.specs.Text.{unpacked, four-numbers, four-numbers-length, digits-word, line-passed, line-refused}
-use Rattle.layout.specs.Appended.{Appended, appended-both}
+use Rattle.writer.specs.Appended.{Appended, appended-both}
 use mathlib.Core.Path.{sym, subst}
 use mathlib.Core.List.{[], _∷_}
 use Prim.Native.Nat.{_/_}
@@ -10,7 +10,7 @@ use Rattle.line.proofs.line.Statement.{statement}
 use Rattle.line.proofs.line.Tie as tie
 use Rattle.line.proofs.put_number.Reads as put-number-reads
 use Rattle.line.proofs.put_numbers.Reads as put-numbers-reads
-use Rattle.line.proofs.put_text.Reads as put-text-reads
+use Rattle.writer.proofs.put_text.Reads as put-text-reads
 
 slice-aggregate-put-text : tie.Need-slice-aggregate-put-text
 slice-aggregate-put-text c = search needs

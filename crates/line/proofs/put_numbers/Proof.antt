@@ -4,7 +4,7 @@ use mathlib.Core.List.{_++_}
 use Prim.Native.Nat.{_/_, _%_}
 use Rattle.rules.specs.Print.{digits, space}
 use Rattle.line.specs.Text.{unpacked, digits-byte, digits-short, digits-word}
-use Rattle.layout.specs.Appended.{appended-both}
+use Rattle.writer.specs.Appended.{appended-both}
 use Rattle.line.proofs.put_numbers.Statement.{statement}
 use Rattle.line.proofs.put_numbers.Tie as tie
 use Rattle.line.proofs.put_number.Reads as put-number-reads

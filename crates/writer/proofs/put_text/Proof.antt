@@ -6,9 +6,9 @@ use native.Mathlib.Nat.{add-zero}
 use native.Mathlib.Omega.{arith}
 use lib.Seq.{take-all}
 use lib.ListN.{length, take}
-use Rattle.layout.specs.Appended.{Appended, appended-nothing, appended-next}
-use Rattle.line.proofs.put_text.Statement.{statement}
-use Rattle.line.proofs.put_text.Tie as tie
+use Rattle.writer.specs.Appended.{Appended, appended-nothing, appended-next}
+use Rattle.writer.proofs.put_text.Statement.{statement}
+use Rattle.writer.proofs.put_text.Tie as tie
 
 abbrev Inv-loop : tie.InvT-loop
 Inv-loop out₀ at text i₀ out i = (i ≤ length text) × Appended out₀ out at (at + i) (take i text)

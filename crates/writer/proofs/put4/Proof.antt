@@ -1,9 +1,9 @@
 use borrow.Author.Needs.{needs}
 use native.Mathlib.Omega.{arith}
 use lib.ListN.{length-set}
-use Rattle.evidence.specs.Record.{four-bytes}
-use Rattle.evidence.proofs.put4.Statement.{statement}
-use Rattle.evidence.proofs.put4.Tie as tie
+use Rattle.writer.specs.FourBytes.{four-bytes}
+use Rattle.writer.proofs.put4.Statement.{statement}
+use Rattle.writer.proofs.put4.Tie as tie
 
 cast-out : tie.Need-cast-out
 cast-out c = search needs
