@@ -1,19 +1,19 @@
 -- The high half of a quotient, from halves alone.
---   HighQuotient             r is the high half of p / q, if q divides p
+--   high-part                how it is computed from the halves of p and the inverse of q modulo 2^16
 --   product-small            a product of two numbers of 16 bits has at most 32
 --   positive                 a number with an inverse is not 0
---   high-quotient            how it is computed from the halves of p and the inverse of q modulo 2^16
+--   high-quotient            if q divides p, that is the high half of p / q
 --   not-divided              where it is above the high half of p, divided by q or by less, q does not divide p
 use mathlib.Core.Path.{_≡_, sym, ap, _∙_}
-use Prim.Native.Nat.{ℕ, zero, suc, _+_, _*_, _/_, _%_, _≤_, _<_, _∣_}
+use Prim.Native.Nat.{ℕ, zero, suc, _+_, _-_, _*_, _/_, _%_, _≤_, _<_, _∣_}
 use native.Mathlib.Nat.{mul-comm, mul-assoc, mul-add, add-mul, mul-left-comm, zero-mul, mul-le-mul, mul-le-mul-right, lt-of-le-of-lt}
 use native.Mathlib.Nat.{div-add-mod, mod-lt, mod-eq-of-lt, add-mul-mod-self-left, mul-add-mod-self-left, le-div-iff-mul-le, mul-div-cancel'}
 use native.Mathlib.Omega.{arith}
 use lib.Dec.{lit<}
 
--- If q divides p, then r is the high half of the quotient.
-abbrev pub HighQuotient : ℕ → ℕ → ℕ → Type 0
-HighQuotient p q r = (m : ℕ) → q * m ≡ p → r ≡ m / 65536
+-- What is computed of a number with the halves h and l, of q and of its inverse v modulo 2^16.
+abbrev pub high-part : ℕ → ℕ → ℕ → ℕ → ℕ
+high-part h l q v = (h + (65536 - q * (l * v % 65536) / 65536)) % 65536 * v % 65536
 
 -- A product of two numbers of 16 bits has at most 32.
 pub product-small : {x y : ℕ} → x < 65536 → y < 65536 → x * y < 65536 * 65536
@@ -53,19 +53,19 @@ pub positive : (q v : ℕ) → q * v % 65536 ≡ 1 → 0 < q
 positive zero v e = absurd (omega (arith, ap (λ y. y % 65536) (zero-mul v)))
 positive (suc q) v e = omega arith
 
--- c is what q times the low half of the quotient carries, and w is high less c modulo 2^16: then w times the inverse is the high half.
-pub high-quotient : (h l q v c w r : ℕ) → q * v % 65536 ≡ 1 → l < 65536 → h < 65536 → w < 65536 → c ≡ q * (l * v % 65536) / 65536 → (w + c) % 65536 ≡ h → r ≡ w * v % 65536 → HighQuotient (65536 * h + l) q r
-high-quotient h l q v c w r inverse small-l small-h small-w carried taken computed m e =
-    computed ∙ ap (λ y. y * v % 65536) exact ∙ cancel q v (m / 65536) inverse ∙ mod-eq-of-lt below
+-- If q divides the number, what is computed is the high half of the quotient.
+pub high-quotient : (h l q v m : ℕ) → q * v % 65536 ≡ 1 → l < 65536 → h < 65536 → q * m ≡ 65536 * h + l → high-part h l q v ≡ m / 65536
+high-quotient h l q v m inverse small-l small-h e =
+    ap (λ y. y * v % 65536) exact ∙ cancel q v (m / 65536) inverse ∙ mod-eq-of-lt below
   where
-    carry : c ≡ q * (m % 65536) / 65536
-    carry = carried ∙ ap (λ y. q * y / 65536) (low-half h l q v m inverse e)
+    carry : q * (l * v % 65536) / 65536 ≡ q * (m % 65536) / 65536
+    carry = ap (λ y. q * y / 65536) (low-half h l q v m inverse e)
 
-    halves : h ≡ q * (m / 65536) + c
+    halves : h ≡ q * (m / 65536) + q * (l * v % 65536) / 65536
     halves = omega (arith, high-half h l q m small-l e, carry)
 
-    exact : w ≡ q * (m / 65536)
-    exact = omega (arith, halves, taken)
+    exact : (h + (65536 - q * (l * v % 65536) / 65536)) % 65536 ≡ q * (m / 65536)
+    exact = omega (arith, halves)
 
     below : m / 65536 < 65536
     below = omega (arith, halves, mul-le-mul-right (m / 65536) (positive q v inverse))
@@ -77,9 +77,9 @@ at-most h l q s m small pos le e =
     (omega (arith, high-half h l q m small e, mul-le-mul-right (m / 65536) le, mul-comm (m / 65536) s))
 
 -- Where the computation gives more than that, q does not divide the number.
-pub not-divided : (h l q s limit r : ℕ) → l < 65536 → 0 < s → s ≤ q → h / s ≤ limit → HighQuotient (65536 * h + l) q r → limit < r → ¬ (q ∣ 65536 * h + l)
-not-divided h l q s limit r small pos le bound computed more divides =
-    omega (arith, at-most h l q s ((65536 * h + l) / q) small pos le whole, computed ((65536 * h + l) / q) whole)
+pub not-divided : (h l q v s limit : ℕ) → l < 65536 → h < 65536 → q * v % 65536 ≡ 1 → 0 < s → s ≤ q → h / s ≤ limit → limit < high-part h l q v → ¬ (q ∣ 65536 * h + l)
+not-divided h l q v s limit small-l small-h inverse pos le bound more divides =
+    omega (arith, at-most h l q s ((65536 * h + l) / q) small-l pos le whole, high-quotient h l q v ((65536 * h + l) / q) inverse small-l small-h whole)
   where
     whole : q * ((65536 * h + l) / q) ≡ 65536 * h + l
     whole = mul-div-cancel' q divides

@@ -3,17 +3,23 @@
 --   table-positive           a table has no 0
 --   Clear                    no number of a part of the table divides p
 --   clear-empty, clear-more, clear-both    an empty part, a part with one number more, two neighbouring parts
+--   left-open, open-more     how many of the first numbers of a block the computation of their quotients leaves open; one number more
+--   none-open                where it leaves none open, no one divides p
 --   block-start, block-after what the first number of a block is, in the block and after it
 --   room                     a whole block is left where one starts
-use mathlib.Core.Path.{_≡_, ap}
+use mathlib.Core.Path.{_≡_, refl, sym, ap, ap₂, _∙_}
 use mathlib.Core.Logic.{by-cases}
+use mathlib.Core.Bool.{cond}
 use mathlib.Core.List.{List}
-use Prim.Native.Nat.{ℕ, _+_, _*_, _/_, _%_, _≤_, _<_, _∣_}
+use Prim.Native.Nat.{ℕ, zero, suc, _+_, _*_, _/_, _%_, _≤_, _<_, _∣_}
 use native.Mathlib.Decide.{ℕ-discrete, decLt}
+use native.Mathlib.Numerals.{add-one}
 use native.Mathlib.Omega.{arith}
+use borrow.Author.Tests.{le-leb}
+use lib.Dec.{leb}
 use lib.ListN.{length, getD}
 use Rattle.divisors.specs.Found.{first}
-use Rattle.divisors.specs.Quotient.{positive}
+use Rattle.divisors.specs.Quotient.{high-part, positive, not-divided}
 
 -- The numbers q rise; v has the inverse modulo 2^16 of each; there are whole blocks of 64.
 pub record Table (q v : List ℕ) : Type 0 where
@@ -45,6 +51,33 @@ clear-more {q} {a} {e} one not before = record { none = λ i lo hi h. by-cases (
 -- Two parts, the second from the first one's end on.
 pub clear-both : {q : List ℕ} {a b e p : ℕ} → Clear q a b p → Clear q b e p → Clear q a e p
 clear-both {b = b} before after = record { none = λ i lo hi. by-cases (decLt i b) (before .none i lo) (λ beyond. after .none i (omega arith) hi) }
+
+-- How many of the n numbers from place a on are left open: the high half that is computed of the quotient by each is at most the limit.
+unfoldable pub left-open : (q v : List ℕ) (a h l limit n : ℕ) → ℕ
+left-open q v a h l limit zero = 0
+left-open q v a h l limit (suc n) = left-open q v a h l limit n + cond (leb (high-part h l (getD q (a + n) 0) (getD v (a + n) 0)) limit) 1 0
+
+-- One number more, of which x is computed.
+pub open-more : (q v : List ℕ) (a h l limit n count x one : ℕ) → count ≡ left-open q v a h l limit n → x ≡ high-part h l (getD q (a + n) 0) (getD v (a + n) 0) → one ≡ cond (leb x limit) 1 0 → count + one ≡ left-open q v a h l limit (n + 1)
+unfolding left-open
+open-more q v a h l limit n count x one before computed counted =
+    ap₂ (λ y z. y + z) before (counted ∙ ap (λ y. cond (leb y limit) 1 0) computed) ∙ sym (ap (left-open q v a h l limit) (add-one n))
+
+-- What is not counted is above the limit.
+uncounted : (x limit : ℕ) → cond {A = ℕ} (leb x limit) 1 0 ≡ 0 → limit < x
+uncounted x limit e = by-cases (decLt limit x) (λ more. more) (λ not. absurd (omega (arith, e, ap (λ b. cond {A = ℕ} b 1 0) (le-leb x limit (omega arith)))))
+
+-- Where none is left open and the limit is at least the high half of p divided by the first number, no one divides p.
+pub none-open : {q v : List ℕ} → Table q v → (a h l limit n count : ℕ) → l < 65536 → h < 65536 → a + n ≤ length q → h / getD q a 0 ≤ limit → count ≡ left-open q v a h l limit n → count ≡ 0 → Clear q a (a + n) (65536 * h + l)
+unfolding left-open
+none-open table a h l limit zero count small-l small-h inside bound counted none = record { none = λ i lo hi. absurd (omega arith) }
+none-open {q} {v} table a h l limit (suc n) count small-l small-h inside bound counted none =
+    clear-more (omega arith)
+    (not-divided h l (getD q (a + n) 0) (getD v (a + n) 0) (getD q a 0) limit small-l small-h (table .inverse (a + n) (omega arith)) (table-positive table .at a (omega arith)) (table .rising a (a + n) (omega arith) (omega arith)) bound (uncounted _ limit (omega (arith, sum))))
+    (none-open table a h l limit n _ small-l small-h (omega arith) bound refl (omega (arith, sum)))
+  where
+    sum : left-open q v a h l limit n + cond (leb (high-part h l (getD q (a + n) 0) (getD v (a + n) 0)) limit) 1 0 ≡ 0
+    sum = sym counted ∙ none
 
 -- The first number of a block, at each place of the block …
 pub block-start : (q : List ℕ) (a i : ℕ) → a % 64 ≡ 0 → a ≤ i → i < a + 64 → getD q a 0 ≡ first q i

@@ -6,10 +6,12 @@
 // that is the high half itself. It is at most high / q. So where this computation gives more, q does not divide p, and no division is
 // needed to say so. Where it gives no more, a division settles it.
 ghost use mathlib.Core.Path.{_≡_};
+ghost use mathlib.Core.Bool.{cond};
 ghost use Prim.Native.Nat.{_+_, _*_, _/_, _%_, _≤_, _<_};
-ghost use lib.ListN.{length, getD};
-ghost use Rattle.divisors.specs.Quotient.{HighQuotient};
-ghost use Rattle.divisors.specs.Table.{Table, Positive, Clear};
+ghost use lib.Dec.{leb};
+ghost use lib.ListN.{length};
+ghost use Rattle.divisors.specs.Quotient.{high-part};
+ghost use Rattle.divisors.specs.Table.{Table, Positive, left-open};
 ghost use Rattle.divisors.specs.Found.{Found, InBlock, InTable, OddDivisor};
 
 // The numbers of a block of a table.
@@ -45,8 +47,7 @@ fn high_product(x: u16, y: u16) -> u16
 // high and low: the halves of a number p. q: a number, and v its inverse modulo 2^16.
 // The high half of p / q, if q divides p; else a number of no meaning. It takes three products and no division.
 fn high_quotient(high: u16, low: u16, q: u16, v: u16) -> u16
-    requires { ⌜ q * v % 65536 ≡ 1 ⌝ }
-    ensures { λ r. ⌜ HighQuotient (65536 * high + low) q r ⌝ }
+    ensures { λ r. ⌜ r ≡ high-part high low q v ⌝ }
 {
     let carried = high_product(q, low_product(low, v));
     low_product(std::num::wrapping_sub_u16(high, carried), v)
@@ -55,20 +56,19 @@ fn high_quotient(high: u16, low: u16, q: u16, v: u16) -> u16
 // x and limit: any numbers.
 // 1 if x is at most the limit, else 0.
 fn one_within(x: u16, limit: u16) -> u16
-    ensures { λ r. ⌜ (r ≤ 1) × (r ≡ 0 → limit < x) ⌝ }
+    ensures { λ r. ⌜ r ≡ cond (leb x limit) 1 0 ⌝ }
 {
     if x <= limit { 1 } else { 0 }
 }
 
 // primes and inverses: a table. from: where a block of it starts. high and low: the halves of a number p. limit: what the high half of
 // p / q is at most, for the block's first q and so for each.
-// How many q of the block may divide p: if 0, none does. The loop has no branch and nothing but 16-bit numbers, so that it is done for
-// eight of them at once.
+// How many q of the block may divide p: those whose computed high half is within the limit. If 0, none does. The loop has no branch and
+// nothing but 16-bit numbers, so that it is done for eight of them at once.
 fn hits(primes: &[u16], inverses: &[u16], from: usize, high: u16, low: u16, limit: u16) -> u16
-    requires { ⌜ Table (now primes) (now inverses) ⌝ }
+    requires { ⌜ length (now inverses) ≡ length (now primes) ⌝ }
     requires { ⌜ from + 64 ≤ length (now primes) ⌝ }
-    requires { ⌜ high / getD (now primes) from 0 ≤ limit ⌝ }
-    ensures { λ r. ⌜ (r ≡ 0 → Clear (now (primes .entry)) from (from + 64) (65536 * high + low)) ⌝ }
+    ensures { λ r. ⌜ r ≡ left-open (now (primes .entry)) (now (inverses .entry)) from high low limit 64 ⌝ }
 {
     let mut count: u16 = 0;
     let mut i: usize = 0;

@@ -1,9 +1,8 @@
 -- `divisors::high_quotient` meets its contract. Assumes nothing.
-use mathlib.Core.Path.{ap, _∙_}
-use Prim.Native.Nat.{_*_, _/_}
+use mathlib.Core.Path.{_≡_, ap, _∙_}
+use Prim.Native.Nat.{_+_, _-_, _*_, _/_, _%_}
 use native.Mathlib.Omega.{arith}
 use borrow.Author.Needs.{needs}
-use Rattle.divisors.specs.Quotient.{high-quotient}
 use Rattle.divisors.proofs.high_quotient.Statement.{statement}
 use Rattle.divisors.proofs.high_quotient.Tie as tie
 
@@ -21,10 +20,12 @@ low-product-requires-2 c κs = search needs
 
 returns : tie.Need-returns
 returns c =
-    high-quotient _ _ _ _ _ _ _ (c .before .before .before .before .pre) (omega arith) (omega arith) (omega arith)
-    (c .before .before .high-product .ensures ∙ ap (λ x. c .before .before .before .before .args .q * x / 65536) (c .before .before .before .low-product .ensures))
-    (c .before .wrapping-sub-u16 .ensures)
-    (c .low-product2 .ensures)
+    let args = c .before .before .before .before .args in
+    let taken : c .before .wrapping-sub-u16 .result ≡ (args .high + (65536 - c .before .before .high-product .result)) % 65536 = omega (arith, c .before .wrapping-sub-u16 .ensures) in
+    c .low-product2 .ensures
+    ∙ ap (λ x. x * args .v % 65536) taken
+    ∙ ap (λ x. (args .high + (65536 - x)) % 65536 * args .v % 65536)
+    (c .before .before .high-product .ensures ∙ ap (λ x. args .q * x / 65536) (c .before .before .before .low-product .ensures))
 
 pub high-quotient-spec : {M : Type 1} → statement M
 high-quotient-spec = tie.close (tie.spec low-product-requires high-product-requires wrapping-sub-u16-requires low-product-requires-2 returns)
