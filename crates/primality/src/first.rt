@@ -22,7 +22,7 @@ const INVERSES: [u16; 64] = [
 
 // p: a number from 317 on, so that none of these primes is p itself.
 // Whether one of them divides p, of those up to p's square root and the rest of their block.
-pub fn divides(p: u32) -> bool
+pub(crate) fn divides(p: u32) -> bool
     requires { ⌜ 317 ≤ p ⌝ }
     ensures { λ r. ⌜ Sifted 3 317 p r ⌝ }
 {

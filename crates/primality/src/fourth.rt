@@ -333,7 +333,7 @@ const INVERSES: [u16; 3072] = [
 
 // p: a number from 46,457 on, so that none of these primes is p itself.
 // Whether one of them divides p, of those up to p's square root and the rest of their block.
-pub fn divides(p: u32) -> bool
+pub(crate) fn divides(p: u32) -> bool
     requires { ⌜ 46457 ≤ p ⌝ }
     ensures { λ r. ⌜ Sifted 14767 46457 p r ⌝ }
 {

@@ -52,7 +52,7 @@ const INVERSES: [u16; 384] = [
 
 // p: a number from 3,181 on, so that none of these primes is p itself.
 // Whether one of them divides p, of those up to p's square root and the rest of their block.
-pub fn divides(p: u32) -> bool
+pub(crate) fn divides(p: u32) -> bool
     requires { ⌜ 3181 ≤ p ⌝ }
     ensures { λ r. ⌜ Sifted 317 3181 p r ⌝ }
 {

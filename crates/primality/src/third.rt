@@ -143,7 +143,7 @@ const INVERSES: [u16; 1280] = [
 
 // p: a number from 14,767 on, so that none of these primes is p itself.
 // Whether one of them divides p, of those up to p's square root and the rest of their block.
-pub fn divides(p: u32) -> bool
+pub(crate) fn divides(p: u32) -> bool
     requires { ⌜ 14767 ≤ p ⌝ }
     ensures { λ r. ⌜ Sifted 3181 14767 p r ⌝ }
 {

@@ -102,7 +102,7 @@ fn read_row(
 
 // s: the file. q: the place of the first `PE` record of m rows of m, modulo p. lengths and entries: where their lengths and their coefficients go.
 // How the reading goes on after them.
-pub fn read_entries(
+pub(crate) fn read_entries(
     s: &[u8],
     q: Place,
     p: u32,
@@ -129,7 +129,14 @@ pub fn read_entries(
 
 // s: the file. q: the place of the `CE` record: m rows of n numbers modulo p. out: where they go.
 // How the reading goes on after the record.
-pub fn read_evidence(s: &[u8], q: Place, p: u32, m: usize, n: usize, out: &mut [u32]) -> Going
+pub(crate) fn read_evidence(
+    s: &[u8],
+    q: Place,
+    p: u32,
+    m: usize,
+    n: usize,
+    out: &mut [u32],
+) -> Going
     requires { ⌜ (q .number < 65535) × (m ≤ most-rows) × (n ≤ most-rows) × (length (now out) ≡ cells) ⌝ }
     ensures { λ r. ⌜ going r (now (out .exit)) ≡ into (evidence-into (now (out .entry))) (CE p m n (now (s .entry)) (place q)) ⌝ }
 {
@@ -141,7 +148,7 @@ pub fn read_evidence(s: &[u8], q: Place, p: u32, m: usize, n: usize, out: &mut [
 
 // s: the file. q: its front. p, m and n: the problem's. evidence: whether the `CE` record is due. lengths, entries and out: where lengths, coefficients and C go.
 // How the reading goes on, which is at the file's end.
-pub fn read_all(
+pub(crate) fn read_all(
     s: &[u8],
     q: Place,
     p: u32,

@@ -116,7 +116,7 @@ fn head_sizes(s: &[u8], q: Place, p: u32) -> Headed
 
 // s: the file. q: the place of the `PR` record.
 // The record's numbers and the place after it, or the refusal.
-pub fn read_head(s: &[u8], q: Place) -> Headed
+pub(crate) fn read_head(s: &[u8], q: Place) -> Headed
     requires { ⌜ q .number < 65535 ⌝ }
     ensures { λ r. ⌜ headed r ≡ PR (now (s .entry)) (place q) ⌝ }
 {
@@ -131,7 +131,7 @@ pub fn read_head(s: &[u8], q: Place) -> Headed
 
 // s: the file. q: the place of the `OR` record. n: the columns. out: where their orders go.
 // How the reading goes on after the record.
-pub fn read_orders(s: &[u8], q: Place, n: usize, out: &mut [usize]) -> Going
+pub(crate) fn read_orders(s: &[u8], q: Place, n: usize, out: &mut [usize]) -> Going
     requires { ⌜ (q .number < 65535) × (n ≤ length (now out)) ⌝ }
     ensures { λ r. ⌜ going r (now (out .exit)) ≡ into (list-into (now (out .entry))) (OR n (now (s .entry)) (place q)) ⌝ }
 {
@@ -143,7 +143,7 @@ pub fn read_orders(s: &[u8], q: Place, n: usize, out: &mut [usize]) -> Going
 
 // s: the file. q: the place of the `SH` record. m: the rows. out: where their shifts go.
 // How the reading goes on after the record.
-pub fn read_shifts(s: &[u8], q: Place, m: usize, out: &mut [i32]) -> Going
+pub(crate) fn read_shifts(s: &[u8], q: Place, m: usize, out: &mut [i32]) -> Going
     requires { ⌜ (q .number < 65535) × (m ≤ length (now out)) ⌝ }
     ensures { λ r. ⌜ going r (now (out .exit)) ≡ into (shifts-into (now (out .entry))) (SH m (now (s .entry)) (place q)) ⌝ }
 {
@@ -179,7 +179,7 @@ fn read_column(s: &[u8], q: Place, p: u32, m: usize, d: usize, j: usize, out: &m
 
 // s: the file. q: the place of the first of n `FC` records of m rows modulo p. orders: the columns' orders. out: where the coefficients go.
 // How the reading goes on after them.
-pub fn read_columns(
+pub(crate) fn read_columns(
     s: &[u8],
     q: Place,
     p: u32,
@@ -209,7 +209,7 @@ pub fn read_columns(
 
 // s: the file. q: the place after its `PR` record, which holds p, m and n. orders, shifts and out: where orders, shifts and coefficients go.
 // How the reading goes on, which is at the file's end.
-pub fn read_body(
+pub(crate) fn read_body(
     s: &[u8],
     q: Place,
     p: u32,

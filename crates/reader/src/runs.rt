@@ -24,7 +24,7 @@ fn coefficient(last: bool) -> Test
 
 // s: the file. q: the place of the first of `count` coefficients modulo p. last: the count at which one may not be 0, or 0. out: where they go, from `base` on.
 // How the reading goes on after them.
-pub fn run(
+pub(crate) fn run(
     s: &[u8],
     q: Place,
     p: u32,
@@ -53,7 +53,7 @@ pub fn run(
 
 // s: the file. q: the place of the first of `rows` rows of `count` coefficients modulo p. out: where they go, from `base` on, each row `stride` after the one before.
 // How the reading goes on after them.
-pub fn block(
+pub(crate) fn block(
     s: &[u8],
     q: Place,
     p: u32,
