@@ -6,9 +6,8 @@
 use mathlib.Core.Path.{_≡_, refl, sym, ap, ap₂, subst, subst₂, _∙_}
 use mathlib.Core.Bool.{true, false}
 use mathlib.Core.List.{List, [], _∷_, _++_}
-use Prim.Native.Nat.{ℕ, zero, suc, _+_, _*_, _≤_, _<_, suc-le-suc, zero-le}
-use native.Mathlib.Nat.{zero-add, mul-le-mul-right}
-use native.Mathlib.Omega.{arith}
+use Prim.Native.Nat.{ℕ, zero, suc, _+_, _≤_, _<_, suc-le-suc, zero-le}
+use native.Mathlib.Nat.{zero-add}
 use lib.ListN.{length, getD, take, drop, take-append-drop}
 use Rattle.rules.specs.Sizes.{most-rows}
 use Rattle.rules.specs.Claim.{Problem}
@@ -29,8 +28,7 @@ use Rattle.reader.specs.Storing.{into, into-got, into-refused}
 use Rattle.reader.specs.Values.{problem-value, answer-value, answer-of, only, without-evidence}
 use Rattle.writer.specs.Appended.{Appended, appended-nothing, appended-unique}
 use Rattle.product.specs.Product.{flat-product, Factors}
-use Rattle.product.specs.Faults.{Ordered}
-use Rattle.layout.specs.Holds.{EntryCells, ColumnCells, Orders}
+use Rattle.layout.specs.Holds.{Ordered, EntryCells, ColumnCells, Orders}
 use Rattle.product.specs.Claims.{product-rules}
 use Rattle.evidence.specs.Record.{row-numbers, flat-evidence}
 use Rattle.board.specs.Readings.{problem-off, problem-on, answer-off, answer-on}
@@ -128,11 +126,6 @@ module _ (s t lent : List ℕ) (r : ReadProblem) (e : r ≡ problem-value (read-
         }
 
 -- WHAT IS ANSWERED
-
--- The bytes needed are few.
-pub evidence-most : (m n : ℕ) → m ≤ most-rows → n ≤ most-rows → 4 * m * n ≤ 64
-unfolding most-rows
-evidence-most m n hm hn = omega (arith, mul-le-mul-right n hm)
 
 abbrev flat-of : ReadProblem → ReadAnswer → List (List ℕ)
 flat-of r x = flat-evidence (r .p) (x .entries) (r .f) (r .orders) (r .m) (r .n)

@@ -1,5 +1,3 @@
-pub mod Parts
-pub mod PartSteps
 pub mod Filled
 pub mod Readings
 pub mod Judging

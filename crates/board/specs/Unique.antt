@@ -4,9 +4,6 @@ use mathlib.Core.List.{List}
 use Prim.Native.Nat.{ℕ}
 use Rattle.rules.specs.Verdict.{verdict}
 use Rattle.rules.specs.Evidence.{make-evidence}
-use Rattle.rules.specs.Part.{Part}
-use denote.Ref.{RefT, ptr, now}
-use Rattle.board.specs.Parts.{PartIn}
 use Rattle.verdict.specs.declared.Verdict.{Verdict}
 use Rattle.verdict.specs.Meant.{meant}
 use Rattle.verdict.specs.Unique.{meant-unique}
@@ -17,7 +14,3 @@ module _ (s t : List ℕ) (r r′ : Verdict) where
 
   pub evidence-files-unique : (lent : List ℕ) → meant r ≡ make-evidence s t lent .answer → meant r′ ≡ make-evidence s t lent .answer → r ≡ r′
   evidence-files-unique lent e e′ = meant-unique r r′ (e ∙ sym e′)
-
--- A part is settled by its bytes and by where they lie.
-pub pointed-at-unique : (s t r r′ : RefT (List ℕ)) (q : Part) → PartIn s t r q → PartIn s t r′ q → (now r ≡ now r′) × (ptr r ≡ ptr r′)
-pointed-at-unique s t r r′ q h h′ = (h .bytes ∙ sym (h′ .bytes), h .where-it-is ∙ sym (h′ .where-it-is))

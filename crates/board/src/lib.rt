@@ -4,15 +4,12 @@ ghost use Rattle.rules.specs.Verdict.{verdict, numbers, packed};
 ghost use Rattle.rules.specs.Evidence.{make-evidence};
 ghost use Rattle.rules.specs.Part.{pointed-at};
 ghost use Rattle.verdict.specs.Meant.{meant};
-ghost use Rattle.board.specs.Parts.{PartIn};
-
-mod part;
-
-use crate::part::cut;
-use crate::part::span;
+ghost use Rattle.part.specs.Parts.{PartIn};
 use conditions::conditions;
 use evidence::put_evidence;
 use layout::RECORD;
+use part::cut;
+use part::span;
 use reader::read_answer;
 use reader::read_problem;
 use verdict::Verdict;

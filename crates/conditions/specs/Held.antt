@@ -11,10 +11,9 @@ use Rattle.algebra.specs.Prime.{Prime}
 use Rattle.rules.specs.Sizes.{most-rows}
 use Rattle.rules.specs.Claim.{Claim}
 use Rattle.rules.specs.Valid.{Valid}
-use Rattle.layout.specs.Holds.{EntryCells, EntryLengths, ColumnCells, Orders, Shifts, Constants}
+use Rattle.layout.specs.Holds.{Ordered, EntryCells, EntryLengths, ColumnCells, Orders, Shifts, Constants}
 use Rattle.matrix.specs.Degrees.{Sized}
 use Rattle.product.specs.Product.{Factors}
-use Rattle.product.specs.Faults.{Ordered}
 
 pub record Arrays : Type 0 where
   pub orders : List ℕ

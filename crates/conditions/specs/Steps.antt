@@ -1,7 +1,7 @@
 -- Each condition over the arrays that hold a claim is that of the rules over the claim.
 use mathlib.Core.Path.{_≡_, refl, sym, ap, subst, _∙_}
 use mathlib.Core.Bool.{Bool, true, false, not}
-use Prim.Native.Nat.{ℕ, _+_}
+use Prim.Native.Nat.{_+_}
 use native.Mathlib.Nat.{le-of-lt}
 use Rattle.algebra.specs.Residue.{K, red}
 use Rattle.algebra.specs.Series.{Series, series-ext}

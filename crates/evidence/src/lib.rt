@@ -5,7 +5,7 @@ ghost use Rattle.rules.specs.Sizes.{most-rows};
 ghost use Rattle.rules.specs.Writer.{bytes, write-all, write-CE};
 ghost use Rattle.writer.specs.Appended.{Appended};
 ghost use Rattle.product.specs.Product.{Factors};
-ghost use Rattle.product.specs.Faults.{Ordered};
+ghost use Rattle.layout.specs.Holds.{Ordered};
 ghost use Rattle.evidence.specs.Record.{row-numbers, flat-evidence};
 use layout::COLUMN_COEFFICIENTS;
 use layout::ENTRY_COEFFICIENTS;

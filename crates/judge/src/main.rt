@@ -1,6 +1,5 @@
 // judge PROBLEM ANSWER: judges two files and prints one line. What is printed is tested; everything else is in the libraries.
 ghost use mathlib.Core.Path.{_≡_};
-ghost use Prim.Native.Nat.{_≤_};
 ghost use lib.ListN.{length};
 ghost use Rattle.rules.specs.Sizes.{read-limit};
 ghost use Rattle.judge.specs.Loads.{Within};

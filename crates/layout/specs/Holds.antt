@@ -2,14 +2,20 @@
 --   EntryCells, EntryLengths       the coefficients of P and their number in each entry
 --   ColumnCells, Orders, Shifts    the coefficients of F, the orders and the shifts
 --   Constants                      the numbers of C
+--   Ordered                        that the orders are as small as document 01 says
 use mathlib.Core.Path.{_≡_}
 use mathlib.Core.List.{List, []}
-use Prim.Native.Nat.{ℕ, _<_}
+use Prim.Native.Nat.{ℕ, _≤_, _<_}
 use lib.IntN.{ℤ, pos}
 use lib.ListN.{length, getD}
 use Rattle.rules.specs.Claim.{Problem}
+use Rattle.rules.specs.Sizes.{most-order}
 use Rattle.rules.specs.Matrices.{order, shift, at}
 use Rattle.layout.specs.Flat.{square-place, cell, column-cell}
+
+-- No order is larger than document 01 allows.
+abbrev pub Ordered : List ℕ → Type 0
+Ordered orders = (j : ℕ) → getD orders j 0 ≤ most-order
 
 module _ (b : Problem) where
   abbrev pub EntryCells : List (List (List ℕ)) → List ℕ → Type 0

@@ -1,8 +1,7 @@
 // The line that is printed for a verdict.
-ghost use mathlib.Core.Path.{_≡_};
 ghost use mathlib.Core.List.{_++_};
 ghost use Prim.Native.Nat.{_+_, _≤_, _<_};
-ghost use lib.ListN.{length, take};
+ghost use lib.ListN.{length};
 ghost use Rattle.rules.specs.Print.{digits, space, line-of};
 ghost use Rattle.line.specs.Text.{room, four-numbers, unpacked};
 ghost use Rattle.writer.specs.Appended.{Appended};

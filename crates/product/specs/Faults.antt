@@ -1,5 +1,4 @@
 -- Condition 3 over the flat arrays: where P·F has a fault. Each test is that of the rules, with the coefficients of the flat arrays.
---   Ordered orders           no order is larger than document 01 allows
 --   flat-low-fault           some coefficient below the order is not 0
 --   flat-order-fault         the coefficient at the order differs from C
 --   flat-fault               one of the two
@@ -9,19 +8,15 @@ use mathlib.Core.Logic.{_≢_}
 use mathlib.Core.Bool.{Bool, true, false, not, cond}
 use mathlib.Core.List.{List}
 use mathlib.Core.Option.{Option, none, some}
-use Prim.Native.Nat.{ℕ, _≤_}
+use Prim.Native.Nat.{ℕ}
 use borrow.Author.Tests.{eq-eqb, ne-eqb}
 use lib.Dec.{eqb}
 use lib.ListN.{getD}
 use Rattle.rules.specs.Conditions.{is-zero, some-below}
-use Rattle.rules.specs.Sizes.{most-order}
 use Rattle.layout.specs.Flat.{square-place}
 use Rattle.product.specs.Product.{flat-product}
 use Rattle.product.specs.declared.fault.Place.{Place}
 use Rattle.product.specs.declared.fault.Place.the-variants.{At, Nowhere}
-
-abbrev pub Ordered : List ℕ → Type 0
-Ordered orders = (j : ℕ) → getD orders j 0 ≤ most-order
 
 -- "In column j of PF every coefficient below power d_j is 0": some coefficient is not.
 abbrev pub low-test : (p : ℕ) → List ℕ → List ℕ → ℕ → ℕ → ℕ → ℕ → Bool

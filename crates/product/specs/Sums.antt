@@ -1,22 +1,12 @@
 -- Laws of the rules' sum of numbers, `sum-below`.
 use mathlib.Core.Path.{_≡_, refl, sym, ap, ap₂, _∙_}
-use Prim.Native.Nat.{ℕ, zero, suc, _+_, _-_, _≤_, _<_, zero-le, suc-le-suc}
-use native.Mathlib.Nat.{le-of-suc-le-suc, not-suc-le-zero, zero-lt-suc, zero-add, suc-add, add-comm, add-assoc}
-use native.Mathlib.Numerals.{add-one}
+use Prim.Native.Nat.{ℕ, zero, suc, _+_, _≤_, _<_, zero-le, suc-le-suc}
+use native.Mathlib.Nat.{le-of-suc-le-suc, not-suc-le-zero, zero-lt-suc, zero-add, suc-add}
 use native.Mathlib.Omega.{arith}
 use Rattle.algebra.specs.Residue.{K, red, red-add}
 use Rattle.algebra.specs.Sum.{sum}
 use Rattle.rules.specs.Conditions.{sum-below}
 use Rattle.rules.specs.WriterLaws.{sum-below-cong}
-
--- A sum's last term stands apart.
-pub sum-below-last : (n : ℕ) (f : ℕ → ℕ) → sum-below (n + 1) f ≡ sum-below n f + f n
-unfolding sum-below
-sum-below-last zero f = add-comm (f zero) 0
-sum-below-last (suc n) f =
-    ap (λ k. sum-below k f) (add-one (suc n))
-    ∙ ap (λ x. f zero + x) (ap (λ k. sum-below k (λ i. f (suc i))) (sym (add-one n)) ∙ sum-below-last n (λ i. f (suc i)))
-    ∙ sym (add-assoc (f zero) (sum-below n (λ i. f (suc i))) (f (suc n)))
 
 -- Terms that are 0 at the end may be left out.
 sum-trim : (n count : ℕ) (g : ℕ → ℕ) → count ≤ n → ((t : ℕ) → t < n → count ≤ t → g t ≡ 0) → sum-below n g ≡ sum-below count g

@@ -2,6 +2,7 @@
 --   length-table, getD-table, table-all        the list of f 0, …, f (n − 1)
 --   evidence-length, evidence-row-length, evidence-number      the matrix made has m rows of n numbers, each the coefficient at the order
 --   length-evidence          its record has 2 + 4 × m × n bytes
+--   evidence-most            … of which the numbers are at most 64
 --   evidence-valid, evidence-read      behind the basis it is read back
 --   evidence-no-order-fault  and no number of it is refused by 12
 --   evidence-of-reading      the answer and the buffer depend on what is read
@@ -12,14 +13,15 @@ use mathlib.Core.Path.{_≡_, refl, sym, ap, subst, _∙_}
 use mathlib.Core.Logic.{_≢_, by-cases}
 use mathlib.Core.Bool.{Bool, true, false}
 use mathlib.Core.List.{List, [], _++_}
-use Prim.Native.Nat.{ℕ, zero, suc, _≤_, _<_}
-use native.Mathlib.Nat.{le-of-suc-le-suc, not-suc-le-zero, le-of-lt}
+use Prim.Native.Nat.{ℕ, zero, suc, _*_, _≤_, _<_}
+use native.Mathlib.Nat.{le-of-suc-le-suc, not-suc-le-zero, le-of-lt, mul-le-mul-right}
 use native.Mathlib.Omega.{arith}
 use native.Mathlib.Decide.{decLe}
 use lib.Dec.{leb, le→leb, leb→le}
 use lib.ListN.{length, getD, take, drop, length-append, length-drop, List·getD-eq-default}
 use lib.Seq.{take-at, drop-at}
 use Rattle.algebra.specs.Residue.{residue-below}
+use Rattle.rules.specs.Sizes.{most-rows}
 use Rattle.rules.specs.Claim.{Problem, Answer}
 use Rattle.rules.specs.Reader.{Place, Refusal, Result, refused, got, next, front}
 use Rattle.rules.specs.Files.{answer-reader, read-claim, read-basis}
@@ -35,6 +37,11 @@ use Rattle.rules.specs.Ranges.{basis-got, read-basis-valid}
 use Rattle.rules.specs.RoundTrip.{written-basis, read-written-answer}
 use Rattle.rules.specs.BoolLaws.{true-iff, false-iff}
 use Rattle.rules.specs.WriterLaws.{length-write-CE}
+
+-- The bytes of its numbers are few.
+pub evidence-most : (m n : ℕ) → m ≤ most-rows → n ≤ most-rows → 4 * m * n ≤ 64
+unfolding most-rows
+evidence-most m n hm hn = omega (arith, mul-le-mul-right n hm)
 
 -- THE MATRIX
 

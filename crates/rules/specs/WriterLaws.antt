@@ -1,12 +1,13 @@
 -- How long what is written is, and where it stands.
---   sum-below-cong, sum-below-constant, sum-below-within      sums of lengths
+--   sum-below-cong, sum-below-last, sum-below-constant, sum-below-within      sums of lengths
 --   length-write-each        what is written of a list's members is as long as they are together …
 --   drop-write-each          … and behind those before it stands what is written of a member
 --   length-write-PR, length-write-OR, length-write-SH, length-write-FC, length-write-PE, length-write-CE      the records
 use mathlib.Core.Path.{_≡_, refl, sym, ap, ap₂, _∙_}
 use mathlib.Core.List.{List, [], _∷_, _++_}
 use Prim.Native.Nat.{ℕ, zero, suc, _+_, _*_, _≤_, _<_}
-use native.Mathlib.Nat.{add-zero, mul-assoc, mul-comm, not-suc-le-zero, le-of-suc-le-suc}
+use native.Mathlib.Nat.{add-zero, add-comm, add-assoc, mul-assoc, mul-comm, not-suc-le-zero, le-of-suc-le-suc}
+use native.Mathlib.Numerals.{add-one}
 use native.Mathlib.Omega.{arith}
 use lib.IntN.{ℤ, pos}
 use lib.ListN.{length, getD, drop, length-append}
@@ -22,6 +23,15 @@ pub sum-below-cong : (n : ℕ) (f g : ℕ → ℕ) → ((i : ℕ) → i < n → 
 unfolding sum-below
 sum-below-cong zero f g h = refl
 sum-below-cong (suc n) f g h = ap₂ _+_ (h 0 (omega arith)) (sum-below-cong n (λ i. f (suc i)) (λ i. g (suc i)) (λ i b. h (suc i) (omega arith)))
+
+-- … its last term stands apart, …
+pub sum-below-last : (n : ℕ) (f : ℕ → ℕ) → sum-below (n + 1) f ≡ sum-below n f + f n
+unfolding sum-below
+sum-below-last zero f = add-comm (f zero) 0
+sum-below-last (suc n) f =
+    ap (λ k. sum-below k f) (add-one (suc n))
+    ∙ ap (λ x. f zero + x) (ap (λ k. sum-below k (λ i. f (suc i))) (sym (add-one n)) ∙ sum-below-last n (λ i. f (suc i)))
+    ∙ sym (add-assoc (f zero) (sum-below n (λ i. f (suc i))) (f (suc n)))
 
 -- … of equal terms it is their number times each, …
 pub sum-below-constant : (n : ℕ) (f : ℕ → ℕ) (k : ℕ) → ((i : ℕ) → i < n → f i ≡ k) → sum-below n f ≡ n * k

@@ -1,5 +1,4 @@
 // Bytes put into a lent buffer, from a place on. No other byte is touched.
-ghost use mathlib.Core.Path.{_≡_};
 ghost use Prim.Native.Nat.{_+_, _≤_};
 ghost use lib.ListN.{length};
 ghost use Rattle.rules.specs.Writer.{bytes};

@@ -8,8 +8,9 @@ use denote.Ref.{now}
 use lib.ListN.{length, length-take}
 use Rattle.rules.specs.Sizes.{most-rows}
 use Rattle.rules.specs.Evidence.{Made}
+use Rattle.rules.specs.EvidenceLaws.{evidence-most}
 use Rattle.writer.specs.Appended.{appended-within}
-use Rattle.board.specs.EvidenceSteps.{BothRead, both-read, problem-unread, read-sizes, answer-unread, both-factors, both-ordered, both-sizes, evidence-most, room-lacks, evidence-put}
+use Rattle.board.specs.EvidenceSteps.{BothRead, both-read, problem-unread, read-sizes, answer-unread, both-factors, both-ordered, both-sizes, room-lacks, evidence-put}
 use Rattle.board.proofs.evidence_files.Statement.{statement}
 use Rattle.board.proofs.evidence_files.Tie as tie
 use Rattle.evidence.proofs.put_evidence.Reads as put-evidence-reads

@@ -6,7 +6,7 @@ use lib.Dec.{eqb}
 use lib.ListN.{length}
 use Rattle.rules.specs.Part.{Part}
 use Rattle.rules.specs.PartLaws.{pointed-within}
-use Rattle.board.specs.Parts.{PartIn}
+use Rattle.part.specs.Parts.{PartIn}
 use Rattle.board.proofs.pointed_at.Statement.{statement}
 use Rattle.board.proofs.pointed_at.Tie as tie
 

@@ -33,13 +33,13 @@ use Rattle.rules.specs.Ranges.{problem-valid, claim-got}
 use Rattle.rules.specs.RefusalPlaces.{claim-refused}
 use Rattle.rules.specs.VerdictLaws.{verdict-of-refusal, code-of-refusal, Judged, verdict-judged}
 use Rattle.rules.specs.PartLaws.{pointed-refused, pointed-claim, front-of-answer, pointed-front, refused-start, pointed-within}
-use Rattle.product.specs.Faults.{Ordered}
+use Rattle.rules.specs.EvidenceLaws.{evidence-most}
+use Rattle.layout.specs.Holds.{Ordered}
 use Rattle.rules.specs.WriterLaws.{sum-below-cong}
 use Rattle.reader.specs.declared.Problem.{Problem as ReadProblem}
 use Rattle.reader.specs.Arrays.{list-at}
 use Rattle.reader.specs.Values.{problem-value}
-use Rattle.board.specs.EvidenceSteps.{evidence-most}
-use Rattle.board.specs.Parts.{PartIn, HasColumn, ColumnPart, start-of}
+use Rattle.part.specs.Parts.{PartIn, HasColumn, ColumnPart, start-of}
 
 -- The entries of a column take no more than 256 bytes.
 pub size-most : (m d : ℕ) → m ≤ most-rows → d ≤ most-order → 4 * m * d ≤ 256

@@ -5,10 +5,10 @@ use mathlib.Core.Path.{_≡_, ap, _∙_}
 use lib.ListN.{getD}
 use Rattle.rules.specs.Conditions.{sum-below}
 use Rattle.rules.specs.Sizes.{most-rows}
-use Rattle.product.specs.Sums.{sum-below-last}
-use Rattle.board.specs.PartSteps.{size-most}
-use Rattle.board.proofs.part.column_start.Statement.{statement}
-use Rattle.board.proofs.part.column_start.Tie as tie
+use Rattle.rules.specs.WriterLaws.{sum-below-last}
+use Rattle.part.specs.Steps.{size-most}
+use Rattle.part.proofs.column_start.Statement.{statement}
+use Rattle.part.proofs.column_start.Tie as tie
 
 -- The start of column k, and that it is small.
 abbrev Inv-loop : tie.InvT-loop

@@ -1,9 +1,9 @@
 use borrow.Author.Needs.{needs}
 use mathlib.Core.Path.{refl}
 use lib.Dec.{eqb}
-use Rattle.board.specs.PartSteps.{within-first, within-second, within-most, part-in-problem, part-in-answer}
-use Rattle.board.proofs.part.cut.Statement.{statement}
-use Rattle.board.proofs.part.cut.Tie as tie
+use Rattle.part.specs.Steps.{within-first, within-second, within-most, part-in-problem, part-in-answer}
+use Rattle.part.proofs.cut.Statement.{statement}
+use Rattle.part.proofs.cut.Tie as tie
 
 add-end : tie.Need-add-end
 add-end c = record { fits = within-most (eqb (c .args .file) 0) (c .pre) (c .good .0 .0) (c .good .1 .0 .0) }

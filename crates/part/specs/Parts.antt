@@ -15,7 +15,7 @@ use Rattle.rules.specs.Reader.{Place, got}
 use Rattle.rules.specs.Files.{read-problem}
 use Rattle.rules.specs.Part.{Part, part-bytes, column-start, column-size}
 use Rattle.rules.specs.Verdict.{Verdict, passed, unread, not-reduced, not-monomial, below-order, at-order, low-rank, no-room, written}
-use Rattle.board.specs.declared.part.Piece.{Piece}
+use Rattle.part.specs.declared.Piece.{Piece}
 
 -- "come back as part of one of the two files given, and no copy is made": the bytes of the part, at their place in the lent file.
 pub record PartIn (s t r : RefT (List ℕ)) (q : Part) : Type 0 where

@@ -1,9 +1,9 @@
 use borrow.Author.Needs.{needs}
 use native.Mathlib.Omega.{arith}
 use Rattle.rules.specs.Sizes.{most-rows}
-use Rattle.board.specs.PartSteps.{evidence-rows, evidence-bytes, evidence-found, evidence-within}
-use Rattle.board.proofs.part.evidence_record.Statement.{statement}
-use Rattle.board.proofs.part.evidence_record.Tie as tie
+use Rattle.part.specs.Steps.{evidence-rows, evidence-bytes, evidence-found, evidence-within}
+use Rattle.part.proofs.evidence_record.Statement.{statement}
+use Rattle.part.proofs.evidence_record.Tie as tie
 
 read-problem-requires : tie.Need-read-problem-requires
 read-problem-requires c κs = search needs

@@ -4,9 +4,9 @@ use mathlib.Core.Logic.{⊎-elim}
 use mathlib.Core.Bool.{cond}
 use lib.Dec.{eqb}
 use lib.ListN.{length}
-use Rattle.board.specs.PartSteps.{end-first, end-second}
-use Rattle.board.proofs.part.rest_of_file.Statement.{statement}
-use Rattle.board.proofs.part.rest_of_file.Tie as tie
+use Rattle.part.specs.Steps.{end-first, end-second}
+use Rattle.part.proofs.rest_of_file.Statement.{statement}
+use Rattle.part.proofs.rest_of_file.Tie as tie
 
 -- The end is that of the file named.
 end-of : (c : tie.After-row-known) → c .before .if1 .end

@@ -2,9 +2,9 @@ use borrow.Author.Needs.{needs}
 use native.Mathlib.Omega.{arith}
 use mathlib.Core.Path.{refl}
 use Rattle.rules.specs.Sizes.{most-rows}
-use Rattle.board.specs.PartSteps.{column-rows, column-columns, column-below, column-ordered, column-bytes, column-found}
-use Rattle.board.proofs.part.column_record.Statement.{statement}
-use Rattle.board.proofs.part.column_record.Tie as tie
+use Rattle.part.specs.Steps.{column-rows, column-columns, column-below, column-ordered, column-bytes, column-found}
+use Rattle.part.proofs.column_record.Statement.{statement}
+use Rattle.part.proofs.column_record.Tie as tie
 
 read-problem-requires : tie.Need-read-problem-requires
 read-problem-requires c κs = search needs

@@ -2,8 +2,8 @@ use mathlib.Core.Path.{_≡_, ap, _∙_}
 use borrow.Author.Needs.{needs}
 use Rattle.rules.specs.Verdict.{Numbers, numbers}
 use Rattle.verdict.specs.Meant.{meant, four-of, four-of-verdict-is}
-use Rattle.board.proofs.part.pointer.Statement.{statement}
-use Rattle.board.proofs.part.pointer.Tie as tie
+use Rattle.part.proofs.pointer.Statement.{statement}
+use Rattle.part.proofs.pointer.Tie as tie
 
 numbers-requires : tie.Need-numbers-requires
 numbers-requires c κs = search needs

@@ -1,9 +1,9 @@
 use borrow.Author.Needs.{needs}
 use native.Mathlib.Omega.{arith}
 use mathlib.Core.Path.{sym, _∙_}
-use Rattle.board.specs.PartSteps.{span-code, span-column, span-column-part, span-start, span-rest, span-front}
-use Rattle.board.proofs.part.span.Statement.{statement}
-use Rattle.board.proofs.part.span.Tie as tie
+use Rattle.part.specs.Steps.{span-code, span-column, span-column-part, span-start, span-rest, span-front}
+use Rattle.part.proofs.span.Statement.{statement}
+use Rattle.part.proofs.span.Tie as tie
 
 pointer-requires : tie.Need-pointer-requires
 pointer-requires c κs = search needs

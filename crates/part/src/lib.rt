@@ -8,9 +8,9 @@ ghost use Rattle.rules.specs.Conditions.{sum-below};
 ghost use Rattle.rules.specs.Sizes.{most-rows};
 ghost use Rattle.rules.specs.Verdict.{verdict, numbers};
 ghost use Rattle.rules.specs.Part.{pointed-at};
-ghost use Rattle.product.specs.Faults.{Ordered};
+ghost use Rattle.layout.specs.Holds.{Ordered};
 ghost use Rattle.verdict.specs.Meant.{meant};
-ghost use Rattle.board.specs.Parts.{PartIn, HasColumn, ColumnPart, part-of, start-of};
+ghost use Rattle.part.specs.Parts.{PartIn, HasColumn, ColumnPart, part-of, start-of};
 use layout::ROWS;
 use reader::read_problem;
 use verdict::Verdict;
@@ -123,7 +123,7 @@ fn evidence_record<'a>(problem: &'a [u8], answer: &'a [u8]) -> Piece
 }
 
 // The part that the verdict `v` on the two files points at.
-pub(crate) fn span<'a>(problem: &'a [u8], answer: &'a [u8], v: Verdict) -> Piece
+pub fn span<'a>(problem: &'a [u8], answer: &'a [u8], v: Verdict) -> Piece
     requires { ⌜ meant v ≡ verdict (now problem) (now answer) ⌝ }
     ensures { λ r. ⌜ part-of r ≡ pointed-at (now (problem .entry)) (now (answer .entry)) ⌝ }
 {
@@ -142,13 +142,7 @@ pub(crate) fn span<'a>(problem: &'a [u8], answer: &'a [u8], v: Verdict) -> Piece
 }
 
 // That part itself.
-pub(crate) fn cut<'a>(
-    problem: &'a [u8],
-    answer: &'a [u8],
-    file: u8,
-    start: usize,
-    size: usize,
-) -> &'a [u8]
+pub fn cut<'a>(problem: &'a [u8], answer: &'a [u8], file: u8, start: usize, size: usize) -> &'a [u8]
     requires { ⌜ start + size ≤ cond (eqb file 0) (length (now problem)) (length (now answer)) ⌝ }
     ensures { λ r. ⌜ PartIn (problem .entry) (answer .entry) r (record { file = file; start = start; size = size }) ⌝ }
 {
