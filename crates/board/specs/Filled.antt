@@ -12,9 +12,8 @@ use Rattle.rules.specs.Reader.{got, front}
 use Rattle.rules.specs.Claim.{Problem}
 use Rattle.rules.specs.Matrices.{at}
 use Rattle.rules.specs.Valid.{ValidProblem, ValidBasis, ValidAnswer}
-use Rattle.layout.specs.Holds.{EntryCells, EntryLengths, ColumnCells, Orders}
+use Rattle.layout.specs.Holds.{EntryCells, EntryLengths, ColumnCells, Orders, Ordered}
 use Rattle.product.specs.Product.{Factors}
-use Rattle.layout.specs.Holds.{Ordered}
 use Rattle.reader.specs.declared.Problem.{Problem as ReadProblem}
 use Rattle.reader.specs.declared.Answer.{Answer as ReadAnswer}
 use Rattle.reader.specs.Flat.{filled, cells, entry-cells, coefficients, list-into, columns-into, entries-into}

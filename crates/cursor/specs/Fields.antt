@@ -17,8 +17,8 @@ use borrow.Author.Tests.{lt-ltb, le-ltb, le-leb, lt-leb, leb-true, leb-false}
 use Rattle.rules.specs.Reader.{Place, Refusal, refused, got, field, number-at, unless}
 use Rattle.rules.specs.ReaderLaws.{got-not-refused, field-short, field-failed, field-got, field-cases}
 use Rattle.rules.specs.Files.{two's-complement, coefficient-test, residue}
-use Rattle.cursor.specs.declared.fields.Test.the-variants.{Last, Mark, Any, Size, Due, Shift, Residue}
-use Rattle.cursor.specs.declared.fields.Test.{Test}
+use Rattle.cursor.specs.declared.Test.the-variants.{Last, Mark, Any, Size, Due, Shift, Residue}
+use Rattle.cursor.specs.declared.Test.{Test}
 use Rattle.cursor.specs.Tests.{between, code-of, width-of, Width, coefficient-of}
 
 pub number-of-1 : (s : List ℕ) (at : ℕ) → number-at 1 s at ≡ getD s at 0

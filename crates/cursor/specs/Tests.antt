@@ -6,8 +6,8 @@ use Prim.Native.Nat.{ℕ}
 use lib.Dec.{leb, ltb, eqb}
 use Rattle.rules.specs.Reader.{unless}
 use Rattle.rules.specs.Files.{shift-in-size, residue, due}
-use Rattle.cursor.specs.declared.fields.Test.{Test}
-use Rattle.cursor.specs.declared.fields.Test.the-variants.{Mark, Any, Size, Due, Shift, Residue, Last}
+use Rattle.cursor.specs.declared.Test.{Test}
+use Rattle.cursor.specs.declared.Test.the-variants.{Mark, Any, Size, Due, Shift, Residue, Last}
 
 abbrev pub width-of : Test → ℕ
 width-of Mark = 2

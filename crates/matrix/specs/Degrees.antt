@@ -17,13 +17,12 @@ use lib.IntN.{ℤ, pos, negsuc, negℤ, natAbs, _+ℤ_, _-ℤ_}
 use lib.ListN.{getD}
 use Rattle.algebra.specs.Residue.{K, red}
 use Rattle.algebra.specs.Sum.{sum, sum-add, neg-sum}
-use Rattle.algebra.specs.Integer.{Integers}
+use Rattle.algebra.specs.Integer.{Integers, natAbs-add}
 use Rattle.algebra.specs.Degree.{coefficient, leading}
 use Rattle.rules.specs.Conditions.{maxZ, largest}
 use Rattle.rules.specs.Sizes.{most-rows, most-length, most-shift}
 use Rattle.layout.specs.Flat.{square-place, cell, cells, cell-below}
 use Rattle.matrix.specs.Fill.{array-of, array-of-at, array-of-below}
-use Rattle.algebra.specs.Integer.{natAbs-add}
 use Rattle.matrix.specs.Signed.{natAbs-minus, natAbs-largest, natAbs-sum}
 
 -- "An entry of length 0 counts as degree 0."

@@ -1,7 +1,7 @@
 -- What reading the `PR` record gives, as a result of the rules.
 use Prim.Native.Nat.{ℕ}
 use Rattle.rules.specs.Reader.{Result, refused, got}
-use Rattle.cursor.specs.Places.{place, refusal}
+use Rattle.place.specs.Places.{place, refusal}
 use Rattle.reader.specs.declared.problem_file.Headed.{Headed}
 use Rattle.reader.specs.declared.problem_file.Headed.the-variants.{Got, Off}
 

@@ -16,13 +16,13 @@ use Rattle.rules.specs.Sizes.{most-rows, most-length}
 use Rattle.rules.specs.Reader.{Place, Refusal, Result, refused, got, Reader, next, _>>=_, give, field, mark, unless, each}
 use Rattle.rules.specs.Files.{PE, one-to, residue, due, coefficient-test}
 use Rattle.rules.specs.ReaderLaws.{opening, closed}
-use Rattle.cursor.specs.declared.place.Place.{Place as Spot}
-use Rattle.cursor.specs.declared.place.Stop.{Stop}
-use Rattle.cursor.specs.declared.place.Field.{Field}
-use Rattle.cursor.specs.declared.place.Field.the-variants.{Value, Off as Field-Off}
-use Rattle.cursor.specs.declared.place.Going.{Going}
-use Rattle.cursor.specs.declared.place.Going.the-variants.{On, Off}
-use Rattle.cursor.specs.Places.{place, refusal, taken, going, closed-of, Numbered}
+use Rattle.place.specs.declared.Place.{Place as Spot}
+use Rattle.place.specs.declared.Stop.{Stop}
+use Rattle.place.specs.declared.Field.{Field}
+use Rattle.place.specs.declared.Field.the-variants.{Value, Off as Field-Off}
+use Rattle.place.specs.declared.Going.{Going}
+use Rattle.place.specs.declared.Going.the-variants.{On, Off}
+use Rattle.place.specs.Places.{place, refusal, taken, going, closed-of, Numbered}
 use Rattle.cursor.specs.Tests.{between}
 use Rattle.cursor.specs.Fields.{between-high}
 use Rattle.reader.specs.Extent.{length-moves}

@@ -11,11 +11,11 @@ use Rattle.rules.specs.Reader.{Place, Result, refused, got, Reader, next, _>>=_
 use Rattle.rules.specs.Files.{shift-in-size, two's-complement}
 use Rattle.rules.specs.ReaderLaws.{field-got}
 use Rattle.rules.specs.ByteNumbers.{AllBytes, number-at-below}
-use Rattle.cursor.specs.declared.place.Place.{Place as Spot}
-use Rattle.cursor.specs.declared.place.Stop.{Stop}
-use Rattle.cursor.specs.declared.place.Field.{Field}
-use Rattle.cursor.specs.declared.place.Field.the-variants.{Value, Off}
-use Rattle.cursor.specs.Places.{place, refusal, taken}
+use Rattle.place.specs.declared.Place.{Place as Spot}
+use Rattle.place.specs.declared.Stop.{Stop}
+use Rattle.place.specs.declared.Field.{Field}
+use Rattle.place.specs.declared.Field.the-variants.{Value, Off}
+use Rattle.place.specs.Places.{place, refusal, taken}
 use Rattle.reader.specs.Storing.{into}
 use Rattle.reader.specs.Reach.{Moves, Any, any-field, moves-bind, moves-give}
 

@@ -15,13 +15,13 @@ use native.Mathlib.Omega.{arith}
 use lib.Dec.{eqb}
 use lib.ListN.{length}
 use Rattle.rules.specs.Reader.{Place, Refusal, Result, refused, got, Reader, next, each, end}
-use Rattle.cursor.specs.declared.place.Place.{Place as Spot}
-use Rattle.cursor.specs.declared.place.Stop.{Stop}
-use Rattle.cursor.specs.declared.place.Field.{Field}
-use Rattle.cursor.specs.declared.place.Field.the-variants.{Value, Off as Field-Off}
-use Rattle.cursor.specs.declared.place.Going.{Going}
-use Rattle.cursor.specs.declared.place.Going.the-variants.{On, Off}
-use Rattle.cursor.specs.Places.{place, refusal, taken, going, finish-of, opened-at}
+use Rattle.place.specs.declared.Place.{Place as Spot}
+use Rattle.place.specs.declared.Stop.{Stop}
+use Rattle.place.specs.declared.Field.{Field}
+use Rattle.place.specs.declared.Field.the-variants.{Value, Off as Field-Off}
+use Rattle.place.specs.declared.Going.{Going}
+use Rattle.place.specs.declared.Going.the-variants.{On, Off}
+use Rattle.place.specs.Places.{place, refusal, taken, going, finish-of, opened-at}
 
 unfoldable pub into : {A B : Type 0} → (A → B) → Result A → Result B
 into g (refused r) = refused r

@@ -5,10 +5,9 @@ ghost use lib.IntN.{pos};
 ghost use Rattle.rules.specs.Sizes.{most-rows};
 ghost use Rattle.rules.specs.Reader.{refused};
 ghost use Rattle.rules.specs.Files.{read-problem};
-ghost use Rattle.cursor.specs.Places.{refusal};
+ghost use Rattle.place.specs.Places.{refusal, place};
 ghost use Rattle.reader.specs.Flat.{filled, cells, coefficients, entry-cells};
 ghost use Rattle.reader.specs.Extent.{Narrow};
-ghost use Rattle.cursor.specs.Places.{place};
 ghost use Rattle.reader.specs.Values.{refusal-value, no-refusal, problem-value, answer-value, answer-of, with-arrays, with-entries, begun-off, begun-on};
 
 mod answer_file;
@@ -20,13 +19,13 @@ use crate::problem_file::Head;
 use crate::problem_file::Headed;
 use crate::problem_file::read_body;
 use crate::problem_file::read_head;
-use cursor::place::Going;
-use cursor::place::Stop;
-use cursor::place::front;
 use layout::COLUMN_COEFFICIENTS;
 use layout::ENTRY_COEFFICIENTS;
 use layout::ROWS;
 use layout::SQUARE;
+use place::Going;
+use place::Stop;
+use place::front;
 use verdict::Refusal;
 
 // A problem: where `ok`, p, m, n, the orders of the columns, the shifts of the rows and the coefficients of F; else the refusal. Every other number is 0.

@@ -4,15 +4,15 @@ ghost use Prim.Native.Nat.{_+_, _*_, _≤_};
 ghost use lib.ListN.{length};
 ghost use Rattle.rules.specs.Reader.{field, each};
 ghost use Rattle.rules.specs.Files.{coefficient-test, residue};
-ghost use Rattle.cursor.specs.Places.{place, going};
+ghost use Rattle.place.specs.Places.{place, going};
 ghost use Rattle.cursor.specs.Tests.{coefficient-of};
 ghost use Rattle.reader.specs.Storing.{into};
 ghost use Rattle.reader.specs.Flat.{run-into, block-into};
-use cursor::fields::Test;
-use cursor::fields::read;
-use cursor::place::Field;
-use cursor::place::Going;
-use cursor::place::Place;
+use cursor::Test;
+use cursor::read;
+use place::Field;
+use place::Going;
+use place::Place;
 
 // last: whether a coefficient is an entry's last one, which may not be 0.
 // Its test.

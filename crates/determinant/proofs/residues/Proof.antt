@@ -1,12 +1,11 @@
 use borrow.Author.Needs.{needs}
 use native.Mathlib.Omega.{arith}
 use Rattle.rules.specs.Sizes.{most-rows, most-length}
-use Rattle.determinant.specs.Padded.{most-power, capacity}
+use Rattle.determinant.specs.Padded.{most-power, capacity, Filled, Remainder, filled-none, filled-more}
 use mathlib.Core.Path.{_≡_, refl, subst, sym, ap, _∙_}
 use Prim.Native.Nat.{ℕ, _+_, _-_, _%_, _≤_}
 use native.Mathlib.Nat.{mod-lt}
 use lib.ListN.{length, getD, length-set, length-replicate}
-use Rattle.determinant.specs.Padded.{Filled, Remainder, filled-none, filled-more}
 use Rattle.determinant.proofs.residues.Statement.{statement}
 use Rattle.determinant.proofs.residues.Tie as tie
 

@@ -1,12 +1,11 @@
 use borrow.Author.Needs.{needs}
 use native.Mathlib.Omega.{arith}
 use Rattle.rules.specs.Sizes.{most-rows, most-length}
-use Rattle.determinant.specs.Padded.{most-power, capacity}
+use Rattle.determinant.specs.Padded.{most-power, capacity, Filled, filled-none, filled-more}
 use mathlib.Core.Path.{_≡_, subst, sym, ap, _∙_}
 use Prim.Native.Nat.{ℕ, _+_, _-_, _≤_}
 use lib.ListN.{getD, length-set, length-replicate}
 use Rattle.layout.specs.Flat.{entry-place}
-use Rattle.determinant.specs.Padded.{Filled, filled-none, filled-more}
 use Rattle.determinant.specs.Sign.{Signed, SignedCell, signed-cell, signed-entry}
 use Rattle.determinant.proofs.signed_entry.Statement.{statement}
 use Rattle.determinant.proofs.signed_entry.Tie as tie

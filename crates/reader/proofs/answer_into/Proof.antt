@@ -6,7 +6,7 @@ use Prim.Native.Nat.{ℕ}
 use lib.ListN.{length}
 use borrow.Author.Needs.{needs}
 use Rattle.rules.specs.Reader.{Place, refused, got, front}
-use Rattle.cursor.specs.Places.{place, refusal, going}
+use Rattle.place.specs.Places.{place, refusal, going}
 use Rattle.reader.specs.declared.Answer.{Answer}
 use Rattle.reader.specs.Values.{answer-parts, answer-value, answer-of, answer-from, answer-given, answer-of-refused}
 use Rattle.reader.specs.Records.{refused-into}

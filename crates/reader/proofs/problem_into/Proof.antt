@@ -9,7 +9,7 @@ use borrow.Author.Needs.{needs}
 use Rattle.rules.specs.Sizes.{most-rows}
 use Rattle.rules.specs.Reader.{Place, refused, got, front}
 use Rattle.rules.specs.Files.{PR, read-problem}
-use Rattle.cursor.specs.Places.{place, refusal}
+use Rattle.place.specs.Places.{place, refusal}
 use Rattle.reader.specs.declared.Problem.{Problem}
 use Rattle.reader.specs.Head.{headed}
 use Rattle.reader.specs.Values.{body-reader, problem-value, problem-of, head-refused, head-given, with-arrays}

@@ -7,7 +7,7 @@ use Rattle.rules.specs.Sizes.{most-rows, most-length}
 use Rattle.rules.specs.Reader.{Reader, field}
 use Rattle.rules.specs.Files.{due}
 use Rattle.reader.specs.Records.{count-reader, refuses, gives, then-refused, then-given, length-field}
-use Rattle.cursor.specs.Places.{place, taken}
+use Rattle.place.specs.Places.{place, taken}
 use Rattle.reader.proofs.answer_file.entry_count.Statement.{statement}
 use Rattle.reader.proofs.answer_file.entry_count.Tie as tie
 

@@ -14,7 +14,7 @@ use Rattle.reader.specs.Records.{then-refused, then-given, refused-into}
 use Rattle.reader.specs.Extent.{entries-counted}
 use Rattle.reader.specs.Flat.{entries-into, evidence-into, answer-into, cells}
 use Rattle.reader.specs.Storing.{into, pour, into-got, into-refused, file-end, going-on, going-off}
-use Rattle.cursor.specs.Places.{place}
+use Rattle.place.specs.Places.{place}
 use Rattle.reader.proofs.answer_file.read_all.Statement.{statement}
 use Rattle.reader.proofs.answer_file.read_all.Tie as tie
 

@@ -13,7 +13,7 @@ use Rattle.reader.specs.Records.{stored-near}
 use Rattle.reader.specs.Flat.{row-into, cells}
 use Rattle.reader.specs.Storing.{Kept, began, stopped, went-on, ended, going-off, going-on}
 use Rattle.reader.specs.Reach.{moves-each}
-use Rattle.cursor.specs.Places.{place}
+use Rattle.place.specs.Places.{place}
 use Rattle.reader.proofs.answer_file.read_entries.Statement.{statement}
 use Rattle.reader.proofs.answer_file.read_entries.Tie as tie
 

@@ -10,13 +10,13 @@ use Rattle.rules.specs.Reader.{each, Place, field}
 use Rattle.rules.specs.Files.{PE, coefficient-test}
 use Rattle.rules.specs.ReaderLaws.{opening}
 use Rattle.layout.specs.Flat.{square-place}
-use Rattle.cursor.specs.declared.fields.Test.the-variants.{Mark}
+use Rattle.cursor.specs.declared.Test.the-variants.{Mark}
 use Rattle.reader.specs.Flat.{put-entry, run-into, cells, entry-cells}
 use Rattle.reader.specs.Storing.{into}
 use Rattle.reader.specs.Records.{closed-into, list-numbered, refuses, gives, record-refused, record-given, refused-into, field-near, count-moves, PE-after-mark, beside}
 use Rattle.reader.specs.Reach.{any-field, moves-each, moved-got}
 use Rattle.cursor.specs.Tests.{code-of}
-use Rattle.cursor.specs.Places.{place, taken, going}
+use Rattle.place.specs.Places.{place, taken, going}
 use Rattle.reader.proofs.answer_file.read_entry.Statement.{statement}
 use Rattle.reader.proofs.answer_file.read_entry.Tie as tie
 

@@ -6,12 +6,12 @@ use Rattle.rules.specs.Sizes.{most-rows}
 use Rattle.rules.specs.Reader.{Place, field}
 use Rattle.rules.specs.Files.{CE}
 use Rattle.rules.specs.ReaderLaws.{opening}
-use Rattle.cursor.specs.declared.fields.Test.the-variants.{Mark}
+use Rattle.cursor.specs.declared.Test.the-variants.{Mark}
 use Rattle.reader.specs.Flat.{evidence-into, cells}
 use Rattle.reader.specs.Storing.{into}
 use Rattle.reader.specs.Records.{closed-into, list-numbered, refuses, gives, record-refused, record-given, refused-into, field-near, block-row-moves}
 use Rattle.cursor.specs.Tests.{code-of}
-use Rattle.cursor.specs.Places.{place, taken}
+use Rattle.place.specs.Places.{place, taken}
 use Rattle.reader.proofs.answer_file.read_evidence.Statement.{statement}
 use Rattle.reader.proofs.answer_file.read_evidence.Tie as tie
 

@@ -10,7 +10,7 @@ use Rattle.reader.specs.Extent.{PE-moves}
 use Rattle.reader.specs.Records.{stored-near}
 use Rattle.reader.specs.Flat.{put-entry}
 use Rattle.reader.specs.Storing.{Kept, began, stopped, went-on, ended, going-off, going-on}
-use Rattle.cursor.specs.Places.{place}
+use Rattle.place.specs.Places.{place}
 use Rattle.reader.proofs.answer_file.read_row.Statement.{statement}
 use Rattle.reader.proofs.answer_file.read_row.Tie as tie
 

@@ -6,9 +6,9 @@ use borrow.Author.Needs.{needs}
 use Rattle.rules.specs.Sizes.{most-rows}
 use Rattle.rules.specs.Reader.{Result, got, field, unless, next}
 use Rattle.rules.specs.Files.{one-to}
-use Rattle.cursor.specs.declared.place.Place.{Place as Spot}
+use Rattle.place.specs.declared.Place.{Place as Spot}
 use Rattle.reader.specs.Records.{sizes-reader, refuses, gives, record-refused, record-given, field-near}
-use Rattle.cursor.specs.Places.{place, taken}
+use Rattle.place.specs.Places.{place, taken}
 use Rattle.reader.proofs.problem_file.head_sizes.Statement.{statement}
 use Rattle.reader.proofs.problem_file.head_sizes.Tie as tie
 

@@ -9,7 +9,7 @@ use Rattle.rules.specs.Sizes.{most-order}
 use Rattle.rules.specs.Reader.{field, unless}
 use Rattle.rules.specs.Files.{one-to}
 use Rattle.reader.specs.Storing.{Kept, began, stopped, went-on, ended, field-off, field-on}
-use Rattle.cursor.specs.Places.{place, taken}
+use Rattle.place.specs.Places.{place, taken}
 use Rattle.reader.proofs.problem_file.order_list.Statement.{statement}
 use Rattle.reader.proofs.problem_file.order_list.Tie as tie
 

@@ -16,7 +16,7 @@ use Rattle.reader.specs.Extent.{OR-moves, SH-moves}
 use Rattle.reader.specs.Reach.{All, Near, all-at, moved-got}
 use Rattle.reader.specs.Flat.{list-into, shifts-into, columns-into, body-into}
 use Rattle.reader.specs.Storing.{into, into-got, into-refused, file-end, going-on, going-off}
-use Rattle.cursor.specs.Places.{place}
+use Rattle.place.specs.Places.{place}
 use Rattle.reader.proofs.problem_file.read_body.Statement.{statement}
 use Rattle.reader.proofs.problem_file.read_body.Tie as tie
 

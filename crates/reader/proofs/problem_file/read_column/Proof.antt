@@ -7,12 +7,12 @@ use Rattle.rules.specs.Sizes.{most-rows, most-order}
 use Rattle.rules.specs.Reader.{each, Place, field}
 use Rattle.rules.specs.Files.{FC, due, residue}
 use Rattle.rules.specs.ReaderLaws.{opening}
-use Rattle.cursor.specs.declared.fields.Test.the-variants.{Mark}
+use Rattle.cursor.specs.declared.Test.the-variants.{Mark}
 use Rattle.reader.specs.Flat.{put-column, block-into, column-size, coefficients}
 use Rattle.reader.specs.Storing.{into}
 use Rattle.reader.specs.Records.{closed-into, list-numbered, refuses, gives, record-refused, record-given, refused-into, field-near, block-row-moves}
 use Rattle.cursor.specs.Tests.{code-of}
-use Rattle.cursor.specs.Places.{place, taken, going}
+use Rattle.place.specs.Places.{place, taken, going}
 use Rattle.reader.proofs.problem_file.read_column.Statement.{statement}
 use Rattle.reader.proofs.problem_file.read_column.Tie as tie
 

@@ -10,7 +10,7 @@ use Rattle.reader.specs.Extent.{FC-moves}
 use Rattle.reader.specs.Records.{stored-near}
 use Rattle.reader.specs.Flat.{put-column}
 use Rattle.reader.specs.Storing.{Kept, began, stopped, went-on, ended, going-off, going-on}
-use Rattle.cursor.specs.Places.{place}
+use Rattle.place.specs.Places.{place}
 use Rattle.reader.proofs.problem_file.read_columns.Statement.{statement}
 use Rattle.reader.proofs.problem_file.read_columns.Tie as tie
 

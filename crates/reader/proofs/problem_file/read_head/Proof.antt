@@ -5,10 +5,10 @@ use borrow.Author.Needs.{needs}
 use Rattle.rules.specs.Reader.{Place, field, unless}
 use Rattle.rules.specs.Files.{PR, allowed-prime}
 use Rattle.rules.specs.ReaderLaws.{opening}
-use Rattle.cursor.specs.declared.fields.Test.the-variants.{Mark}
+use Rattle.cursor.specs.declared.Test.the-variants.{Mark}
 use Rattle.reader.specs.Records.{sizes-reader, refuses, gives, record-refused, record-given, field-near}
 use Rattle.cursor.specs.Tests.{code-of}
-use Rattle.cursor.specs.Places.{place, taken}
+use Rattle.place.specs.Places.{place, taken}
 use Rattle.reader.proofs.problem_file.read_head.Statement.{statement}
 use Rattle.reader.proofs.problem_file.read_head.Tie as tie
 

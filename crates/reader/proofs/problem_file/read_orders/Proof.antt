@@ -5,13 +5,13 @@ use borrow.Author.Needs.{needs}
 use Rattle.rules.specs.Reader.{Place, field}
 use Rattle.rules.specs.Files.{OR}
 use Rattle.rules.specs.ReaderLaws.{opening}
-use Rattle.cursor.specs.declared.fields.Test.the-variants.{Mark}
+use Rattle.cursor.specs.declared.Test.the-variants.{Mark}
 use Rattle.reader.specs.Flat.{list-into}
 use Rattle.reader.specs.Storing.{into}
 use Rattle.reader.specs.Records.{closed-into, list-numbered, refuses, gives, record-refused, record-given, refused-into, field-near}
 use Rattle.reader.specs.Reach.{any-field}
 use Rattle.cursor.specs.Tests.{code-of}
-use Rattle.cursor.specs.Places.{place, taken}
+use Rattle.place.specs.Places.{place, taken}
 use Rattle.reader.proofs.problem_file.read_orders.Statement.{statement}
 use Rattle.reader.proofs.problem_file.read_orders.Tie as tie
 

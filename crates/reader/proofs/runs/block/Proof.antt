@@ -10,7 +10,7 @@ use Rattle.rules.specs.Files.{coefficient-test, residue}
 use Rattle.reader.specs.Flat.{run-into, put-row, row-next, row-fits}
 use Rattle.reader.specs.Storing.{into, Kept, began, stopped, went-on, ended, going-off, going-on}
 use Rattle.cursor.specs.Fields.{residue-field}
-use Rattle.cursor.specs.Places.{place, going}
+use Rattle.place.specs.Places.{place, going}
 use Rattle.reader.proofs.runs.block.Statement.{statement}
 use Rattle.reader.proofs.runs.block.Tie as tie
 

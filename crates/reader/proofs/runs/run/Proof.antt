@@ -7,12 +7,12 @@ use lib.ListN.{length, length-set}
 use borrow.Author.Needs.{needs}
 use Rattle.rules.specs.Reader.{Reader, field}
 use Rattle.rules.specs.Files.{coefficient-test}
-use Rattle.cursor.specs.declared.fields.Test.{Test}
+use Rattle.cursor.specs.declared.Test.{Test}
 use Rattle.reader.specs.Flat.{put-from}
 use Rattle.reader.specs.Storing.{Kept, began, stopped, went-on, ended, field-off, field-on}
 use Rattle.cursor.specs.Fields.{coefficient-field}
 use Rattle.cursor.specs.Tests.{width-of, code-of}
-use Rattle.cursor.specs.Places.{place, taken}
+use Rattle.place.specs.Places.{place, taken}
 use Rattle.reader.proofs.runs.run.Statement.{statement}
 use Rattle.reader.proofs.runs.run.Tie as tie
 

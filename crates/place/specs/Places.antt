@@ -1,0 +1,48 @@
+-- The code's places and refusals as those of the rules.
+--   place, refusal           the code's place and refusal
+--   taken                    what one field gives
+--   going                    what several fields give, with what they left in the room lent
+use mathlib.Core.Bool.{cond}
+use Prim.Native.Nat.{ℕ, _+_, _<_}
+use lib.Dec.{eqb}
+use Rattle.rules.specs.Reader.{Place, Refusal, Result, refused, got}
+use Rattle.place.specs.declared.Place.{Place as Spot}
+use Rattle.place.specs.declared.Stop.{Stop}
+use Rattle.place.specs.declared.Field.{Field}
+use Rattle.place.specs.declared.Field.the-variants.{Value, Off as Field-Off}
+use Rattle.place.specs.declared.Going.{Going}
+use Rattle.place.specs.declared.Going.the-variants.{On, Off}
+
+abbrev pub place : Spot → Place
+place q = record { file = q .file; number = q .number; start = q .start; at = q .at }
+
+abbrev pub refusal : Stop → Refusal
+refusal x = record { code = x .code; place = place (x .place) }
+
+abbrev pub taken : Field → Result ℕ
+taken (Value v q) = got v (place q)
+taken (Field-Off x) = refused (refusal x)
+
+abbrev pub going : {A : Type 0} → Going → A → Result A
+going (On q) a = got a (place q)
+going (Off x) a = refused (refusal x)
+
+-- The code's place at which a record starts, the one after a record, and how the reading goes on after it.
+abbrev pub after-of : Spot → Spot
+after-of q = record { file = q .file; number = q .number + 1; start = q .start; at = q .at }
+
+abbrev pub opened-at : Spot → Spot
+opened-at q = record { file = q .file; number = q .number; start = q .at; at = q .at }
+
+abbrev pub closed-of : Going → Going
+closed-of (On q) = On (after-of q)
+closed-of (Off x) = Off x
+
+-- One more record can be counted.
+abbrev pub Numbered : Going → Type 0
+Numbered (On q) = q .number < 65_535
+Numbered (Off x) = Unit {0}
+
+-- After the last record of a file of that length: its end, or refusal 8.
+abbrev pub finish-of : ℕ → Spot → Going
+finish-of n q = cond (eqb (q .at) n) (On q) (Off (record { code = 8; place = opened-at q }))
