@@ -1,5 +1,5 @@
-// The four conditions of document 01, on a claim that lies in flat arrays. The parameters are the same in all: orders, shifts, the
-// coefficients of F, the lengths and the coefficients of P's entries, C, the prime, the rows and the columns.
+// The four conditions of document 01, on a claim that lies in flat arrays. A name means the same in all functions: orders, shifts, the
+// coefficients f of F, the lengths and the coefficients (entries) of P's entries, C, the prime, the rows and the columns.
 ghost use mathlib.Core.Path.{_≡_};
 ghost use Prim.Native.Nat.{ℕ, _+_, _<_, _≤_};
 ghost use lib.ListN.{getD};

@@ -18,7 +18,7 @@ abbrev held : tie.Start → Arrays
 held s = arrays (s .args .orders) (s .args .shifts) (now (s .args .f)) (now (s .args .lengths)) (now (s .args .entries)) (now (s .args .c))
 
 not-reduced-requires : tie.Need-not-reduced-requires
-not-reduced-requires c κs = search needs
+not-reduced-requires c κs = let pre = c .before .pre in ((pre .prime, pre .factors .entry-below), (pre .sized, (pre .rows-least, pre .rows-most)))
 
 fault-if-requires : tie.Need-fault-if-requires
 fault-if-requires c κs = search needs
@@ -41,13 +41,13 @@ fault-if-requires-2 : tie.Need-fault-if-requires-2
 fault-if-requires-2 c κs = search needs
 
 product-fault-requires : tie.Need-product-fault-requires
-product-fault-requires c κs = search needs
+product-fault-requires c κs = let pre = c .before .pre in (pre .factors, (pre .ordered, (pre .rows-most, pre .columns-most)))
 
 product-fault-requires-2 : tie.Need-product-fault-requires-2
-product-fault-requires-2 c κs = search needs
+product-fault-requires-2 c κs = let pre = c .before .pre in (pre .factors, (pre .ordered, (pre .rows-most, pre .columns-most)))
 
 low-rank-requires : tie.Need-low-rank-requires
-low-rank-requires c κs = search needs
+low-rank-requires c κs = let pre = c .before .pre in ((pre .prime, (pre .factors .entry-below, pre .constants-below)), (pre .rows-most, pre .columns-most))
 
 fault-if-requires-3 : tie.Need-fault-if-requires-3
 fault-if-requires-3 c κs = search needs
