@@ -30,13 +30,14 @@ applies code c =
     (cond (eqb code 10) (fault-if (not (monomial-determinant (c .problem) (c .answer .P))) not-monomial)
     (cond (eqb code 11) (fault-at below-order (first-place (c .problem .m) (c .problem .n) (low-fault (c .problem) (c .answer .P))))
     (cond (eqb code 12) (fault-at at-order (first-place (c .problem .m) (c .problem .n) (order-fault (c .problem) (c .answer .P) (c .answer .C))))
-    (fault-if (rank-below (c .problem) (c .answer .P) (c .answer .C)) low-rank))))
+    (cond (eqb code 13) (fault-if (rank-below (c .problem) (c .answer .P) (c .answer .C)) low-rank)
+    none))))
 
--- Of any other code than 9 to 12 it is the rank that counts.
-pub applies-rank : (c : Claim) (code : ℕ) → ¬ (code ≡ 9) → ¬ (code ≡ 10) → ¬ (code ≡ 11) → ¬ (code ≡ 12)
-    → applies code c ≡ fault-if (rank-below (c .problem) (c .answer .P) (c .answer .C)) low-rank
+-- No other code is for a claim.
+pub applies-none : (c : Claim) (code : ℕ) → ¬ (code ≡ 9) → ¬ (code ≡ 10) → ¬ (code ≡ 11) → ¬ (code ≡ 12) → ¬ (code ≡ 13) → applies code c ≡ none
 unfolding applies
-applies-rank c code h9 h10 h11 h12 = rw (ne-eqb code 9 h9, applies) (rw (ne-eqb code 10 h10) (rw (ne-eqb code 11 h11) (rw (ne-eqb code 12 h12))))
+applies-none c code h9 h10 h11 h12 h13 =
+    rw (ne-eqb code 9 h9, applies) (rw (ne-eqb code 10 h10) (rw (ne-eqb code 11 h11) (rw (ne-eqb code 12 h12) (rw (ne-eqb code 13 h13)))))
 
 -- A verdict that applies, or else another.
 abbrev pub or-else : Option Verdict → Verdict → Verdict

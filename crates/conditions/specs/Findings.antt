@@ -28,7 +28,7 @@ use Rattle.product.specs.declared.fault.Place.{Place}
 use Rattle.product.specs.declared.fault.Place.the-variants.{At, Nowhere}
 use Rattle.elimination.specs.Grid.{grid}
 use Rattle.conditions.specs.Held.{Arrays, Held, Judged, claim}
-use Rattle.conditions.specs.Applies.{applies, fault-if, fault-at, product-verdict, first-applying, judged-in-order, applies-rank, applying-first, applying-later}
+use Rattle.conditions.specs.Applies.{applies, fault-if, fault-at, product-verdict, first-applying, judged-in-order, applies-none, applying-first, applying-later}
 use Rattle.conditions.specs.Steps as Steps
 use Rattle.conditions.specs.declared.Finding.{Finding}
 use Rattle.conditions.specs.declared.Finding.the-variants.{Fault, Nothing}
@@ -89,10 +89,13 @@ module _ (p m n : ℕ) (x : Arrays) where
   unfolding applies
   found-at os ss F P C held = let c = claim p m n os ss F P C in ap (fault-at at-order) (Steps.order-of x c held)
 
-  pub found-low-rank : (code : ℕ) (r : Bool) → ¬ (code ≡ 9) → ¬ (code ≡ 10) → ¬ (code ≡ 11) → ¬ (code ≡ 12)
-      → Settles (Dependent (K p) m (m + n) (grid p (array-of m (m + n) (rank-number (x .entries) (x .constants) m)))) r → Judged (applies code) p m n x (fault-if r low-rank)
-  found-low-rank code r h9 h10 h11 h12 s os ss F P C held =
-      let c = claim p m n os ss F P C in sym (applies-rank c code h9 h10 h11 h12 ∙ ap (λ b. fault-if b low-rank) (Steps.rank-of x c held r s))
+  pub found-low-rank : (r : Bool) → Settles (Dependent (K p) m (m + n) (grid p (array-of m (m + n) (rank-number (x .entries) (x .constants) m)))) r
+      → Judged (applies 13) p m n x (fault-if r low-rank)
+  unfolding applies
+  found-low-rank r s os ss F P C held = let c = claim p m n os ss F P C in sym (ap (λ b. fault-if b low-rank) (Steps.rank-of x c held r s))
+
+  pub found-nothing : (code : ℕ) → ¬ (code ≡ 9) → ¬ (code ≡ 10) → ¬ (code ≡ 11) → ¬ (code ≡ 12) → ¬ (code ≡ 13) → Judged (applies code) p m n x none
+  found-nothing code h9 h10 h11 h12 h13 os ss F P C held = sym (applies-none (claim p m n os ss F P C) code h9 h10 h11 h12 h13)
 
   -- The codes from 9 up to this one are tried, and none before it applies.
   pub record Tried (code : ℕ) : Type 0 where

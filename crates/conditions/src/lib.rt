@@ -111,7 +111,7 @@ fn fault_if(applies: bool, v: Verdict) -> Finding
     }
 }
 
-// The verdict of that code, 9 to 13, where it applies.
+// The verdict of that code, where it applies. None but those of 9 to 13 is for a claim.
 fn applying<'a>(
     code: u8,
     orders: [usize; ROWS],
@@ -138,7 +138,8 @@ fn applying<'a>(
         ),
         11 => product_fault(orders, f, lengths, entries, c, p, m, n, false),
         12 => product_fault(orders, f, lengths, entries, c, p, m, n, true),
-        _ => fault_if(low_rank(entries, c, p, m, n), Verdict::LowRank),
+        13 => fault_if(low_rank(entries, c, p, m, n), Verdict::LowRank),
+        _ => Finding::Nothing,
     }
 }
 

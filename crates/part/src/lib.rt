@@ -23,11 +23,11 @@ pub struct Piece {
 }
 
 // What of a verdict says where its bytes lie.
-pub struct Pointed {
-    pub code: u8,
-    pub file: u8,
-    pub at: u32,
-    pub start: u32,
+struct Pointed {
+    code: u8,
+    file: u8,
+    at: u32,
+    start: u32,
 }
 
 // The first byte of the record that a refusal of reading names; of any other verdict, 0.

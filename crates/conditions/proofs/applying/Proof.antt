@@ -1,10 +1,9 @@
 use borrow.Author.Needs.{needs}
-use mathlib.Core.Path.{refl}
 use native.Mathlib.Omega.{arith}
 use denote.Ref.{now}
 use Rattle.rules.specs.Sizes.{most-rows}
 use Rattle.conditions.specs.Held.{Arrays, arrays}
-use Rattle.conditions.specs.Findings.{found-as, found-not-reduced, found-not-monomial, found-below, found-at, found-low-rank}
+use Rattle.conditions.specs.Findings.{found-as, found-not-reduced, found-not-monomial, found-below, found-at, found-low-rank, found-nothing}
 use Rattle.conditions.proofs.applying.Statement.{statement}
 use Rattle.conditions.proofs.applying.Tie as tie
 use Rattle.conditions.proofs.fault_if.Reads as fault-if-reads
@@ -83,8 +82,14 @@ returns-5 c =
     let s = c .before .before .before in
     let a = s .args in
     let test = c .before .low-rank in
-    let other = c .before .before .match .rest in
-    found-as (a .p) (a .m) (a .n) (held s) (a .code) (a .code) _ _ refl (c .fault-if3 .ensures) (found-low-rank (a .p) (a .m) (a .n) (held s) (a .code) (test .result) (other .0 .0 .0 .1) (other .0 .0 .1) (other .0 .1) (other .1) (test .ensures))
+    found-as (a .p) (a .m) (a .n) (held s) (a .code) 13 _ _ (c .before .before .match .keys5) (c .fault-if3 .ensures) (found-low-rank (a .p) (a .m) (a .n) (held s) (test .result) (test .ensures))
+
+returns-6 : tie.Need-returns-6
+returns-6 c =
+    let s = c .before in
+    let a = s .args in
+    let other = c .match .rest in
+    found-nothing (a .p) (a .m) (a .n) (held s) (a .code) (other .0 .0 .0 .0 .1) (other .0 .0 .0 .1) (other .0 .0 .1) (other .0 .1) (other .1)
 
 pub applying-spec : {M : Type 1} → statement M
 applying-spec =
@@ -102,4 +107,5 @@ applying-spec =
     returns-2
     returns-3
     returns-4
-    returns-5)
+    returns-5
+    returns-6)
