@@ -1,5 +1,4 @@
 -- Steps towards the part that a verdict points at.
---   size-most                the entries of a column are few bytes
 --   same-part                equal numbers make equal parts
 --   read-rows .. column-found          what the code's problem holds where the file is read, and the `FC` record by its numbers
 --   column-rows .. column-bytes        the same of a problem that has the column
@@ -14,7 +13,6 @@ use mathlib.Core.Logic.{_≢_}
 use mathlib.Core.Bool.{Bool, true, false, cond}
 use mathlib.Core.List.{List}
 use Prim.Native.Nat.{ℕ, _+_, _-_, _*_, _≤_, _<_}
-use native.Mathlib.Nat.{mul-le-mul-right}
 use native.Mathlib.Omega.{arith}
 use lib.Dec.{eqb}
 use lib.ListN.{length, getD, take, drop}
@@ -33,20 +31,12 @@ use Rattle.rules.specs.Ranges.{problem-valid, claim-got}
 use Rattle.rules.specs.RefusalPlaces.{claim-refused}
 use Rattle.rules.specs.VerdictLaws.{verdict-of-refusal, code-of-refusal, Judged, verdict-judged}
 use Rattle.rules.specs.PartLaws.{pointed-refused, pointed-claim, front-of-answer, pointed-front, refused-start, pointed-within}
-use Rattle.rules.specs.EvidenceLaws.{evidence-most}
 use Rattle.layout.specs.Holds.{Ordered}
-use Rattle.rules.specs.WriterLaws.{sum-below-cong}
+use Rattle.rules.specs.WriterLaws.{sum-below-cong, rectangle-most}
 use Rattle.reader.specs.declared.Problem.{Problem as ReadProblem}
 use Rattle.reader.specs.Arrays.{list-at}
 use Rattle.reader.specs.Values.{problem-value}
 use Rattle.part.specs.Parts.{PartIn, HasColumn, ColumnPart, start-of}
-
--- The entries of a column take no more than 256 bytes.
-pub size-most : (m d : ℕ) → m ≤ most-rows → d ≤ most-order → 4 * m * d ≤ 256
-unfolding most-rows most-order
-size-most m d hm hd =
-    let few : 4 * m ≤ 16 = omega arith in
-    omega (arith, mul-le-mul-right d few)
 
 -- Equal numbers make equal parts.
 pub same-part : {f f' s s' k k' : ℕ} → f ≡ f' → s ≡ s' → k ≡ k'
@@ -106,8 +96,8 @@ module _ (s : List ℕ) (r : ReadProblem) (h : r ≡ problem-value (read-problem
   pub column-ordered : Ordered (r .orders)
   column-ordered = read-ordered s r h (has .2)
 
-  pub column-bytes : 4 * r .m * getD (r .orders) j 0 ≤ 256
-  column-bytes = size-most (r .m) (getD (r .orders) j 0) column-rows (column-ordered j)
+  pub column-bytes : 4 * r .m * getD (r .orders) j 0 ≤ 4 * most-rows * most-order
+  column-bytes = rectangle-most column-rows (column-ordered j)
 
 -- WHAT A CODE SAYS
 
@@ -178,8 +168,8 @@ module _ (s t : List ℕ) where
     pub evidence-rows : r .m ≤ most-rows
     evidence-rows = let (b, q, e, part) = evidence-read code in rows-small s r h e
 
-    pub evidence-bytes : 4 * r .m * r .n ≤ 64
-    evidence-bytes = let (b, q, e, part) = evidence-read code in evidence-most (r .m) (r .n) (rows-small s r h e) (columns-small s r h e)
+    pub evidence-bytes : 4 * r .m * r .n ≤ 4 * most-rows * most-rows
+    evidence-bytes = let (b, q, e, part) = evidence-read code in rectangle-most (rows-small s r h e) (columns-small s r h e)
 
     -- The record is the part, …
     pub evidence-found : _≡_ {A = Part} (record { file = 1; start = length t - (2 + 4 * r .m * r .n); size = 2 + 4 * r .m * r .n }) (pointed-at s t)

@@ -2,7 +2,6 @@
 --   length-table, getD-table, table-all        the list of f 0, …, f (n − 1)
 --   evidence-length, evidence-row-length, evidence-number      the matrix made has m rows of n numbers, each the coefficient at the order
 --   length-evidence          its record has 2 + 4 × m × n bytes
---   evidence-most            … of which the numbers are at most 64
 --   evidence-valid, evidence-read      behind the basis it is read back
 --   evidence-no-order-fault  and no number of it is refused by 12
 --   evidence-of-reading      the answer and the buffer depend on what is read
@@ -37,11 +36,6 @@ use Rattle.rules.specs.Ranges.{basis-got, read-basis-valid}
 use Rattle.rules.specs.RoundTrip.{written-basis, read-written-answer}
 use Rattle.rules.specs.BoolLaws.{true-iff, false-iff}
 use Rattle.rules.specs.WriterLaws.{length-write-CE}
-
--- The bytes of its numbers are few.
-pub evidence-most : (m n : ℕ) → m ≤ most-rows → n ≤ most-rows → 4 * m * n ≤ 64
-unfolding most-rows
-evidence-most m n hm hn = omega (arith, mul-le-mul-right n hm)
 
 -- THE MATRIX
 

@@ -1,12 +1,13 @@
 -- How long what is written is, and where it stands.
 --   sum-below-cong, sum-below-last, sum-below-constant, sum-below-within      sums of lengths
+--   rectangle-most           the bytes of the numbers of a rectangle: a larger one has no fewer
 --   length-write-each        what is written of a list's members is as long as they are together …
 --   drop-write-each          … and behind those before it stands what is written of a member
 --   length-write-PR, length-write-OR, length-write-SH, length-write-FC, length-write-PE, length-write-CE      the records
 use mathlib.Core.Path.{_≡_, refl, sym, ap, ap₂, _∙_}
 use mathlib.Core.List.{List, [], _∷_, _++_}
 use Prim.Native.Nat.{ℕ, zero, suc, _+_, _*_, _≤_, _<_}
-use native.Mathlib.Nat.{add-zero, add-comm, add-assoc, mul-assoc, mul-comm, not-suc-le-zero, le-of-suc-le-suc}
+use native.Mathlib.Nat.{add-zero, add-comm, add-assoc, mul-assoc, mul-comm, mul-le-mul, mul-le-mul-left, not-suc-le-zero, le-of-suc-le-suc}
 use native.Mathlib.Numerals.{add-one}
 use native.Mathlib.Omega.{arith}
 use lib.IntN.{ℤ, pos}
@@ -45,6 +46,10 @@ unfolding sum-below
 sum-below-within zero f j h = absurd (not-suc-le-zero h)
 sum-below-within (suc n) f zero h = omega arith
 sum-below-within (suc n) f (suc j) h = omega (arith, sum-below-within n (λ i. f (suc i)) j (le-of-suc-le-suc h))
+
+-- Four bytes for each number of a rectangle: a larger one has no fewer.
+pub rectangle-most : {m n M N : ℕ} → m ≤ M → n ≤ N → 4 * m * n ≤ 4 * M * N
+rectangle-most hm hn = mul-le-mul (mul-le-mul-left 4 hm) hn
 
 -- LISTS
 

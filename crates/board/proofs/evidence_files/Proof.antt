@@ -8,7 +8,7 @@ use denote.Ref.{now}
 use lib.ListN.{length, length-take}
 use Rattle.rules.specs.Sizes.{most-rows}
 use Rattle.rules.specs.Evidence.{Made}
-use Rattle.rules.specs.EvidenceLaws.{evidence-most}
+use Rattle.rules.specs.WriterLaws.{rectangle-most}
 use Rattle.writer.specs.Appended.{appended-within}
 use Rattle.board.specs.EvidenceSteps.{BothRead, both-read, problem-unread, read-sizes, answer-unread, both-factors, both-ordered, both-sizes, room-lacks, evidence-put}
 use Rattle.board.proofs.evidence_files.Statement.{statement}
@@ -56,6 +56,7 @@ slice-aggregate-put-evidence : tie.Need-slice-aggregate-put-evidence
 slice-aggregate-put-evidence c = search needs
 
 put-evidence-requires : tie.Need-put-evidence-requires
+unfolding most-rows
 put-evidence-requires c κs =
     let d = c .before .before .before .before .before .before .before in
     let a = d .before .before .before .before .before .before .before .args in
@@ -65,7 +66,7 @@ put-evidence-requires c κs =
       both-factors (now (a .problem)) (now (a .answer)) (now (a .buffer)) b x (both d),
       (
         both-ordered (now (a .problem)) (now (a .answer)) (now (a .buffer)) b x (both d),
-        (sizes, omega (arith, evidence-most (b .m) (b .n) (sizes .0) (sizes .1))),
+        (sizes, omega (arith, rectangle-most (sizes .0) (sizes .1))),
       ),
     )
 

@@ -1,7 +1,7 @@
 use borrow.Author.Needs.{needs}
 use native.Mathlib.Omega.{arith}
 use mathlib.Core.Path.{refl}
-use Rattle.rules.specs.Sizes.{most-rows}
+use Rattle.rules.specs.Sizes.{most-rows, most-order}
 use Rattle.part.specs.Steps.{column-rows, column-columns, column-below, column-ordered, column-bytes, column-found}
 use Rattle.part.proofs.column_record.Statement.{statement}
 use Rattle.part.proofs.column_record.Tie as tie
@@ -42,12 +42,14 @@ element-copy-out-size c =
     omega (arith, column-below (s .args .problem .now) (x .result) (x .ensures) (s .args .j) (s .pre))
 
 mul-size-3 : tie.Need-mul-size-3
+unfolding most-rows most-order
 mul-size-3 c =
     let s = c .before .before .before .before .before in
     let x = c .before .before .before .read-problem in
     omega (arith, column-bytes (s .args .problem .now) (x .result) (x .ensures) (s .args .j) (s .pre))
 
 add-size : tie.Need-add-size
+unfolding most-rows most-order
 add-size c =
     let s = c .before .before .before .before .before in
     let x = c .before .before .before .read-problem in

@@ -16,12 +16,14 @@ mul-size c =
     omega (arith, evidence-rows (s .args .problem .now) (s .args .answer .now) (x .result) (x .ensures) (s .pre))
 
 mul-size-2 : tie.Need-mul-size-2
+unfolding most-rows
 mul-size-2 c =
     let s = c .before .before .before .before .before in
     let x = c .before .before .read-problem in
     omega (arith, evidence-bytes (s .args .problem .now) (s .args .answer .now) (x .result) (x .ensures) (s .pre))
 
 add-size : tie.Need-add-size
+unfolding most-rows
 add-size c =
     let s = c .before .before .before .before .before in
     let x = c .before .before .read-problem in
