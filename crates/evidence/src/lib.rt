@@ -2,6 +2,7 @@
 ghost use Prim.Native.Nat.{_+_, _*_, _≤_, _<_};
 ghost use lib.ListN.{length};
 ghost use Rattle.rules.specs.Sizes.{most-rows};
+ghost use Rattle.rules.specs.RecordBytes.{evidence-bytes};
 ghost use Rattle.rules.specs.Writer.{bytes, write-all, write-CE};
 ghost use Rattle.writer.specs.Appended.{Appended};
 ghost use Rattle.product.specs.Product.{Factors};
@@ -57,7 +58,7 @@ pub fn put_evidence<'a, 'b>(
     requires { ⌜ Factors p (now entries) (now lengths) (now f) ⌝ }
     requires { ⌜ Ordered orders ⌝ }
     requires { ⌜ (m ≤ most-rows) × (n ≤ most-rows) ⌝ }
-    requires { ⌜ 2 + 4 * m * n ≤ length (now out) ⌝ }
+    requires { ⌜ evidence-bytes m n ≤ length (now out) ⌝ }
     ensures { λ r. ⌜ Appended (now (out .entry)) (now (out .exit)) 0 r (write-CE (flat-evidence p (now (entries .entry)) (now (f .entry)) orders m n)) ⌝ }
 {
     let mut end = put_text(out, 0, b"CE");

@@ -1,7 +1,7 @@
 -- Steps towards the part that a verdict points at.
 --   same-part                equal numbers make equal parts
 --   read-rows .. column-found          what the code's problem holds where the file is read, and the `FC` record by its numbers
---   column-rows .. column-bytes        the same of a problem that has the column
+--   column-rows .. column-ordered        the same of a problem that has the column
 --   read-of-code             a code past 8: both files are read
 --   column-held, column-pointed        code 11: the column is there, and its record is the part
 --   evidence-rows .. evidence-within   code 12: the `CE` record is the part, and lies in the answer
@@ -18,7 +18,8 @@ use lib.Dec.{eqb}
 use lib.ListN.{length, getD, take, drop}
 use denote.Ref.{RefT, ptr, now}
 use borrow.Author.Tests.{eq-eqb, ne-eqb}
-use Rattle.rules.specs.Sizes.{most-rows, most-order}
+use Rattle.rules.specs.Sizes.{most-rows}
+use Rattle.rules.specs.RecordBytes.{head-bytes, column-bytes, evidence-bytes}
 use Rattle.rules.specs.Claim.{Problem, Claim}
 use Rattle.rules.specs.Reader.{Place, Refusal, Result, refused, got}
 use Rattle.rules.specs.Files.{read-problem, read-claim}
@@ -73,14 +74,14 @@ module _ (s : List ℕ) (r : ReadProblem) (h : r ≡ problem-value (read-problem
   columns-small = omega (arith, read-columns, problem-valid s e .columns-most)
 
   -- The `FC` record of a column, by the numbers that the code has.
-  pub column-found : (j start size : ℕ) → start ≡ 8 + (2 + r .n) + (2 + 2 * r .m) + sum-below j (λ k. 3 + 4 * r .m * getD (r .orders) k 0)
-      → size ≡ 3 + 4 * r .m * getD (r .orders) j 0
+  pub column-found : (j start size : ℕ) → start ≡ head-bytes (r .m) (r .n) + sum-below j (λ k. column-bytes (r .m) (getD (r .orders) k 0))
+      → size ≡ column-bytes (r .m) (getD (r .orders) j 0)
       → _≡_ {A = Part} (record { file = 0; start = start; size = size }) (record { file = 0; start = column-start b j; size = column-size b j })
   unfolding column-start column-size
   column-found j start size hs hk =
-      let each : (k : ℕ) → 3 + 4 * r .m * getD (r .orders) k 0 ≡ 3 + 4 * b .m * order b k = λ k. ap₂ (λ (m d : ℕ). 3 + 4 * m * d) read-rows (read-order k) in
+      let each : (k : ℕ) → column-bytes (r .m) (getD (r .orders) k 0) ≡ column-size b k = λ k. ap₂ column-bytes read-rows (read-order k) in
       same-part refl
-      (hs ∙ ap₂ _+_ (ap₂ (λ (n m : ℕ). 8 + (2 + n) + (2 + 2 * m)) read-columns read-rows) (sum-below-cong j _ _ (λ k below. each k)))
+      (hs ∙ ap₂ _+_ (ap₂ head-bytes read-rows read-columns) (sum-below-cong j _ _ (λ k below. each k)))
       (hk ∙ each j)
 
 module _ (s : List ℕ) (r : ReadProblem) (h : r ≡ problem-value (read-problem s)) (j : ℕ) (has : HasColumn s j) where
@@ -95,9 +96,6 @@ module _ (s : List ℕ) (r : ReadProblem) (h : r ≡ problem-value (read-problem
 
   pub column-ordered : Ordered (r .orders)
   column-ordered = read-ordered s r h (has .2)
-
-  pub column-bytes : 4 * r .m * getD (r .orders) j 0 ≤ 4 * most-rows * most-order
-  column-bytes = rectangle-most column-rows (column-ordered j)
 
 -- WHAT A CODE SAYS
 
@@ -168,19 +166,19 @@ module _ (s t : List ℕ) where
     pub evidence-rows : r .m ≤ most-rows
     evidence-rows = let (b, q, e, part) = evidence-read code in rows-small s r h e
 
-    pub evidence-bytes : 4 * r .m * r .n ≤ 4 * most-rows * most-rows
-    evidence-bytes = let (b, q, e, part) = evidence-read code in rectangle-most (rows-small s r h e) (columns-small s r h e)
+    pub evidence-few : 4 * r .m * r .n ≤ 4 * most-rows * most-rows
+    evidence-few = let (b, q, e, part) = evidence-read code in rectangle-most (rows-small s r h e) (columns-small s r h e)
 
     -- The record is the part, …
-    pub evidence-found : _≡_ {A = Part} (record { file = 1; start = length t - (2 + 4 * r .m * r .n); size = 2 + 4 * r .m * r .n }) (pointed-at s t)
+    pub evidence-found : _≡_ {A = Part} (record { file = 1; start = length t - evidence-bytes (r .m) (r .n); size = evidence-bytes (r .m) (r .n) }) (pointed-at s t)
     evidence-found =
         let (b, q, e, part) = evidence-read code in
-        ap₂ (λ (m n : ℕ). record { file = 1; start = length t - (2 + 4 * m * n); size = 2 + 4 * m * n }) (read-rows s r h e) (read-columns s r h e) ∙ sym part
+        ap₂ (λ (m n : ℕ). record { file = 1; start = length t - evidence-bytes m n; size = evidence-bytes m n }) (read-rows s r h e) (read-columns s r h e) ∙ sym part
 
     -- … and the answer has room for it at its end.
-    pub evidence-within : 2 + 4 * r .m * r .n ≤ length t
+    pub evidence-within : evidence-bytes (r .m) (r .n) ≤ length t
     evidence-within =
-        let inside : length t - (2 + 4 * r .m * r .n) + (2 + 4 * r .m * r .n) ≤ length t =
+        let inside : length t - evidence-bytes (r .m) (r .n) + evidence-bytes (r .m) (r .n) ≤ length t =
         subst (λ x. x .start + x .size ≤ cond (eqb (x .file) 0) (length s) (length t)) (sym evidence-found) (pointed-within s t)
         in
         omega (arith, inside)

@@ -1,11 +1,12 @@
 // Where the bytes lie that a verdict points at.
 ghost use mathlib.Core.Path.{_≡_};
 ghost use mathlib.Core.Bool.{cond};
-ghost use Prim.Native.Nat.{_+_, _-_, _*_, _≤_};
+ghost use Prim.Native.Nat.{_+_, _-_, _≤_};
 ghost use lib.Dec.{eqb};
 ghost use lib.ListN.{length, getD};
 ghost use Rattle.rules.specs.Conditions.{sum-below};
-ghost use Rattle.rules.specs.Sizes.{most-rows};
+ghost use Rattle.rules.specs.Sizes.{most-rows, most-order};
+ghost use Rattle.rules.specs.RecordBytes.{head-bytes, column-bytes};
 ghost use Rattle.rules.specs.Verdict.{verdict, numbers};
 ghost use Rattle.rules.specs.Part.{pointed-at};
 ghost use Rattle.layout.specs.Holds.{Ordered};
@@ -61,16 +62,24 @@ fn pointer(v: Verdict) -> Pointed
     }
 }
 
+// The bytes of an `FC` record of `m` rows and the order `d`.
+fn column_bytes(m: usize, d: usize) -> usize
+    requires { ⌜ (m ≤ most-rows) × (d ≤ most-order) ⌝ }
+    ensures { λ r. ⌜ r ≡ column-bytes m d ⌝ }
+{
+    3 + 4 * m * d
+}
+
 // The first byte of the `FC` record of column `j`: `PR`, `OR`, `SH` and the columns before it stand before it.
 fn column_start(orders: [usize; ROWS], m: usize, n: usize, j: usize) -> usize
     requires { ⌜ (m ≤ most-rows) × ((n ≤ most-rows) × (j ≤ most-rows)) ⌝ }
     requires { ⌜ Ordered orders ⌝ }
-    ensures { λ r. ⌜ r ≡ 8 + (2 + n) + (2 + 2 * m) + sum-below j (λ k. 3 + 4 * m * getD orders k 0) ⌝ }
+    ensures { λ r. ⌜ r ≡ head-bytes m n + sum-below j (λ k. column-bytes m (getD orders k 0)) ⌝ }
 {
     let mut start = 8 + (2 + n) + (2 + 2 * m);
     let mut k = 0;
     while k < j {
-        start += 3 + 4 * m * orders[k];
+        start += column_bytes(m, orders[k]);
         k += 1;
     }
     start
@@ -100,7 +109,7 @@ fn column_record(problem: &[u8], j: usize) -> Piece
 {
     let b = read_problem(problem);
     let start = column_start(b.orders, b.m, b.n, j);
-    let size = 3 + 4 * b.m * b.orders[j];
+    let size = column_bytes(b.m, b.orders[j]);
     Piece {
         file: 0,
         start,

@@ -4,9 +4,10 @@
 --   make-evidence s t lent   what is answered, and what the lent buffer holds afterwards
 use mathlib.Core.Bool.{true, false}
 use mathlib.Core.List.{List, [], _∷_, _++_}
-use Prim.Native.Nat.{ℕ, zero, suc, _+_, _*_}
+use Prim.Native.Nat.{ℕ, zero, suc}
 use lib.Dec.{leb}
 use lib.ListN.{length, drop}
+use Rattle.rules.specs.RecordBytes.{evidence-bytes}
 use Rattle.rules.specs.Claim.{Problem}
 use Rattle.rules.specs.Reader.{refused, got}
 use Rattle.rules.specs.Files.{read-basis}
@@ -28,9 +29,9 @@ table (suc n) f = f zero ∷ table n (λ i. f (suc i))
 unfoldable pub evidence-of : Problem → List (List (List ℕ)) → List (List ℕ)
 evidence-of b P = table (b .m) (λ i. table (b .n) (λ j. product b P i j (order b j) .0))
 
--- "2 + 4 × m × n"
+-- "fewer than 2 + 4 × m × n bytes lent"
 abbrev pub evidence-size : Problem → ℕ
-evidence-size b = 2 + 4 * b .m * b .n
+evidence-size b = evidence-bytes (b .m) (b .n)
 
 -- "the lent buffer starts with the `CE` record …, and every byte after it is as before. After a refusal every byte is as before."
 unfoldable pub make-evidence : List ℕ → List ℕ → List ℕ → Made

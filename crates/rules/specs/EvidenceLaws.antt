@@ -12,15 +12,14 @@ use mathlib.Core.Path.{_≡_, refl, sym, ap, subst, _∙_}
 use mathlib.Core.Logic.{_≢_, by-cases}
 use mathlib.Core.Bool.{Bool, true, false}
 use mathlib.Core.List.{List, [], _++_}
-use Prim.Native.Nat.{ℕ, zero, suc, _*_, _≤_, _<_}
-use native.Mathlib.Nat.{le-of-suc-le-suc, not-suc-le-zero, le-of-lt, mul-le-mul-right}
+use Prim.Native.Nat.{ℕ, zero, suc, _≤_, _<_}
+use native.Mathlib.Nat.{le-of-suc-le-suc, not-suc-le-zero, le-of-lt}
 use native.Mathlib.Omega.{arith}
 use native.Mathlib.Decide.{decLe}
 use lib.Dec.{leb, le→leb, leb→le}
 use lib.ListN.{length, getD, take, drop, length-append, length-drop, List·getD-eq-default}
 use lib.Seq.{take-at, drop-at}
 use Rattle.algebra.specs.Residue.{residue-below}
-use Rattle.rules.specs.Sizes.{most-rows}
 use Rattle.rules.specs.Claim.{Problem, Answer}
 use Rattle.rules.specs.Reader.{Place, Refusal, Result, refused, got, next, front}
 use Rattle.rules.specs.Files.{answer-reader, read-claim, read-basis}

@@ -1,4 +1,5 @@
 pub mod Sizes
+pub mod RecordBytes
 pub mod Reader
 pub mod Claim
 pub mod Files

@@ -5,9 +5,10 @@
 --   part-bytes s t q         its bytes
 use mathlib.Core.Bool.{cond}
 use mathlib.Core.List.{List}
-use Prim.Native.Nat.{ℕ, _+_, _-_, _*_}
+use Prim.Native.Nat.{ℕ, _+_, _-_}
 use lib.Dec.{eqb}
 use lib.ListN.{length, take, drop}
+use Rattle.rules.specs.RecordBytes.{head-bytes, column-bytes}
 use Rattle.rules.specs.Claim.{Problem}
 use Rattle.rules.specs.Reader.{Place, refused, got}
 use Rattle.rules.specs.Files.{read-claim}
@@ -29,11 +30,11 @@ rest-of-file s t q = record { file = q .file; start = q .start; size = cond (eqb
 
 -- The size of the `FC` record of column j, …
 unfoldable pub column-size : Problem → ℕ → ℕ
-column-size b j = 3 + 4 * b .m * order b j
+column-size b j = column-bytes (b .m) (order b j)
 
 -- … and its first byte: `PR`, `OR`, `SH` and the columns before it stand before it.
 unfoldable pub column-start : Problem → ℕ → ℕ
-column-start b j = 8 + (2 + b .n) + (2 + 2 * b .m) + sum-below j (column-size b)
+column-start b j = head-bytes (b .m) (b .n) + sum-below j (column-size b)
 
 -- "Code 11: the `FC` record of that column in the problem. Code 12: the `CE` record in the answer. Codes 0, 9, 10 and 13: the empty
 -- part at the front of the answer."

@@ -16,6 +16,7 @@ use native.Mathlib.Omega.{arith}
 use lib.Dec.{eqb}
 use lib.ListN.{length, getD, take, drop, length-append, length-drop}
 use lib.Seq.{take-at, take-all, drop-at, drop-append-add}
+use Rattle.rules.specs.RecordBytes.{head-bytes}
 use Rattle.rules.specs.Claim.{Problem, Answer, Claim}
 use Rattle.rules.specs.Reader.{Place, Refusal, Result, refused, got, front}
 use Rattle.rules.specs.Files.{read-claim}
@@ -43,7 +44,7 @@ module _ (b : Problem) (valid : ValidProblem b) where
   head : List ℕ
   head = write-PR (b .p) (b .m) (b .n) ++ write-OR (b .orders) ++ write-SH (b .shifts)
 
-  length-head : length head ≡ 8 + (2 + b .n) + (2 + 2 * b .m)
+  length-head : length head ≡ head-bytes (b .m) (b .n)
   unfolding head
   length-head = omega (
     arith,

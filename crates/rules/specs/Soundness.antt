@@ -15,6 +15,7 @@ use lib.IntN.{pos, natAbs}
 use lib.ListN.{length, getD, List·getD-eq-default}
 use Rattle.algebra.specs.Prime.{Prime}
 use Rattle.rules.specs.Sizes.{largest-prime, most-rows, most-order, most-shift, most-length}
+use Rattle.rules.specs.RecordBytes.{head-bytes, column-bytes, entry-bytes, evidence-bytes}
 use Rattle.rules.specs.Claim.{Problem}
 use Rattle.rules.specs.Reader.{field, mark, unless, each, give, _>>=_}
 use Rattle.rules.specs.Files.{PR, OR, SH, FC, PE, CE, problem-reader, coefficient-test, entries-reader, answer-reader, basis-reader, allowed-prime}
@@ -28,15 +29,15 @@ use Rattle.rules.specs.FieldTests.{unless-iff, allowed-prime-iff, one-to
 
 -- The most bytes of a record `FC`: every size as large as it may be; …
 unfoldable pub longest-FC : ℕ
-longest-FC = 3 + 4 * most-rows * most-order
+longest-FC = column-bytes most-rows most-order
 
 -- … of a problem: `PR`, `OR`, `SH` and the records `FC`; …
 unfoldable pub longest-problem : ℕ
-longest-problem = 8 + (2 + most-rows) + (2 + 2 * most-rows) + most-rows * longest-FC
+longest-problem = head-bytes most-rows most-rows + most-rows * longest-FC
 
 -- … of a record `PE`; …
 unfoldable pub longest-PE : ℕ
-longest-PE = 5 + 4 * most-length
+longest-PE = entry-bytes most-length
 
 -- … of an answer that ends after the last `PE`; …
 unfoldable pub longest-basis : ℕ
@@ -44,7 +45,7 @@ longest-basis = most-rows * most-rows * longest-PE
 
 -- … and of an answer: the records `PE`, and `CE`.
 unfoldable pub longest-answer : ℕ
-longest-answer = longest-basis + (2 + 4 * most-rows * most-rows)
+longest-answer = longest-basis + evidence-bytes most-rows most-rows
 
 -- A field with one code.
 sound-unless : (k code : ℕ) (holds : ℕ → Bool) → 1 ≤ code → code ≤ 8 → Sound k 0 (λ v. T (holds v)) (field k (unless code holds))
@@ -176,7 +177,7 @@ sound-PE p i j lo = sound-weaken (omega arith) (omega arith) (λ l h. h) (sound-
     }) (
     sound-each 0 L (λ k. field 4 (coefficient-test p L k)) (sound-coefficient p L))))))))
 
-sound-CE : (p m n : ℕ) → m ≤ most-rows → n ≤ most-rows → Sound (2 + 4 * most-rows * most-rows) 1 (Listed m [] (λ i. Listed n 0 (λ j c. c < p))) (CE p m n)
+sound-CE : (p m n : ℕ) → m ≤ most-rows → n ≤ most-rows → Sound (evidence-bytes most-rows most-rows) 1 (Listed m [] (λ i. Listed n 0 (λ j c. c < p))) (CE p m n)
 unfolding CE
 sound-CE p m n hm hn = sound-weaken (omega (arith, mul-le-mul hm hn)) (omega arith) (λ l h. h) (sound-inside (
     sound-next (sound-mark 0x43 0x45) (λ v hv.

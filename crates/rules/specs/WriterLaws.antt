@@ -13,6 +13,7 @@ use native.Mathlib.Omega.{arith}
 use lib.IntN.{ℤ, pos}
 use lib.ListN.{length, getD, drop, length-append}
 use lib.Seq.{drop-append-add}
+use Rattle.rules.specs.RecordBytes.{column-bytes, entry-bytes, evidence-bytes}
 use Rattle.rules.specs.Conditions.{sum-below}
 use Rattle.rules.specs.Writer.{bytes, write-each, write-all, unsigned, write-PR, write-OR, write-SH, write-FC, write-PE, write-CE}
 use Rattle.rules.specs.ByteNumbers.{length-bytes}
@@ -117,17 +118,17 @@ length-write-SH shifts =
 
 -- … `FC` 3 and four for each coefficient, …
 pub length-write-FC : (m d j : ℕ) (column : List (List ℕ)) → length column ≡ m → ((i : ℕ) → i < m → length (getD column i []) ≡ d)
-    → length (write-FC j column) ≡ 3 + 4 * m * d
+    → length (write-FC j column) ≡ column-bytes m d
 unfolding write-FC bytes
 length-write-FC m d j column size sizes = omega (arith, length-write-rows m d column size sizes)
 
 -- … `PE` 5 and four for each coefficient, …
-pub length-write-PE : (i j : ℕ) (entry : List ℕ) → length (write-PE i j entry) ≡ 5 + 4 * length entry
+pub length-write-PE : (i j : ℕ) (entry : List ℕ) → length (write-PE i j entry) ≡ entry-bytes (length entry)
 unfolding write-PE bytes
 length-write-PE i j entry = omega (arith, length-write-numbers 4 entry)
 
 -- … and `CE` 2 and four for each number.
 pub length-write-CE : (m n : ℕ) (C : List (List ℕ)) → length C ≡ m → ((i : ℕ) → i < m → length (getD C i []) ≡ n)
-    → length (write-CE C) ≡ 2 + 4 * m * n
+    → length (write-CE C) ≡ evidence-bytes m n
 unfolding write-CE
 length-write-CE m n C size sizes = omega (arith, length-write-rows m n C size sizes)

@@ -1,100 +1,93 @@
 use borrow.Author.Needs.{needs}
 use native.Mathlib.Omega.{arith}
 use Prim.Native.Nat.{ℕ, _+_, _-_, _*_, _≤_}
-use mathlib.Core.Path.{_≡_, ap, _∙_}
+use mathlib.Core.Path.{_≡_, ap, ap₂, _∙_}
 use lib.ListN.{getD}
 use Rattle.rules.specs.Conditions.{sum-below}
+use Rattle.rules.specs.RecordBytes.{head-bytes, column-bytes}
 use Rattle.rules.specs.Sizes.{most-rows, most-order}
 use Rattle.rules.specs.Soundness.{longest-FC}
 use Rattle.rules.specs.WriterLaws.{sum-below-last, rectangle-most}
 use Rattle.part.proofs.column_start.Statement.{statement}
 use Rattle.part.proofs.column_start.Tie as tie
+use Rattle.part.proofs.column_bytes.Reads as column-bytes-reads
 
 -- The start of column k, and that it is small.
 abbrev Inv-loop : tie.InvT-loop
 Inv-loop m n j orders start₀ k₀ start k =
-    (k ≤ j) × (start ≡ 8 + (2 + n) + (2 + 2 * m) + sum-below k (λ i. 3 + 4 * m * getD orders i 0)) × (start ≤ 12 + 3 * most-rows + longest-FC * k)
+    (k ≤ j) × (start ≡ head-bytes m n + sum-below k (λ i. column-bytes m (getD orders i 0))) × (start ≤ head-bytes most-rows most-rows + longest-FC * k)
 
 abbrev μ-loop : tie.MeasureT-loop
 μ-loop m n j orders start₀ k₀ start k = j - k
 
 add-start : tie.Need-add-start Inv-loop μ-loop
-unfolding most-rows most-order longest-FC
+unfolding most-rows
 add-start c = search needs
 
 add-start-2 : tie.Need-add-start-2 Inv-loop μ-loop
-unfolding most-rows most-order longest-FC
+unfolding most-rows
 add-start-2 c = search needs
 
 mul-start : tie.Need-mul-start Inv-loop μ-loop
-unfolding most-rows most-order longest-FC
+unfolding most-rows
 mul-start c = search needs
 
 add-start-3 : tie.Need-add-start-3 Inv-loop μ-loop
-unfolding most-rows most-order longest-FC
+unfolding most-rows
 add-start-3 c = search needs
 
 add-start-4 : tie.Need-add-start-4 Inv-loop μ-loop
-unfolding most-rows most-order longest-FC
+unfolding most-rows
 add-start-4 c = search needs
 
 loop-holds : tie.Need-loop-holds Inv-loop μ-loop
-unfolding most-rows most-order longest-FC sum-below
+unfolding most-rows sum-below
 loop-holds c = (search needs, search needs, search needs)
 
-mul-start-2 : tie.Need-mul-start-2 Inv-loop μ-loop
-unfolding most-rows most-order longest-FC
-mul-start-2 c = search needs
+mul-column-bytes : tie.Need-mul-column-bytes Inv-loop μ-loop
+unfolding most-rows
+mul-column-bytes c = search needs
 
-mul-start-3 : tie.Need-mul-start-3 Inv-loop μ-loop
-unfolding most-rows most-order longest-FC
-mul-start-3 c = search needs
+array-read-column-bytes : tie.Need-array-read-column-bytes Inv-loop μ-loop
+unfolding most-rows
+array-read-column-bytes c = search needs
 
-array-read-start : tie.Need-array-read-start Inv-loop μ-loop
-unfolding most-rows most-order longest-FC
-array-read-start c = search needs
+column-bytes-requires : tie.Need-column-bytes-requires Inv-loop μ-loop
+column-bytes-requires c κs = let s = c .before .before in (s .pre .0 .0, s .pre .1 (c .before .loop .k))
 
--- The entries of a column are few bytes.
-small : (c : tie.In-loop Inv-loop μ-loop) → 4 * c .before .before .args .m * getD (c .before .before .args .t1) (c .before .loop .k) 0 ≤ 4 * most-rows * most-order
-small c =
-    let s = c .before .before in
-    rectangle-most (s .pre .0 .0) (s .pre .1 (c .before .loop .k))
-
-mul-start-4 : tie.Need-mul-start-4 Inv-loop μ-loop
-unfolding most-rows most-order longest-FC
-mul-start-4 c = omega (arith, small c)
+-- A column's record is no longer than the longest.
+few : (c : tie.After-column-bytes Inv-loop μ-loop) → c .column-bytes .result ≤ longest-FC
+unfolding longest-FC
+few c =
+    let s = c .before .before .before in
+    omega (arith, c .column-bytes .ensures, rectangle-most (s .pre .0 .0) (s .pre .1 (c .before .before .loop .k)))
 
 add-start-5 : tie.Need-add-start-5 Inv-loop μ-loop
 unfolding most-rows most-order longest-FC
-add-start-5 c = omega (arith, small c)
-
-add-start-6 : tie.Need-add-start-6 Inv-loop μ-loop
-unfolding most-rows most-order longest-FC
-add-start-6 c = omega (arith, small c)
+add-start-5 c = omega (arith, few c)
 
 add-k : tie.Need-add-k Inv-loop μ-loop
-unfolding most-rows most-order longest-FC
+unfolding most-rows
 add-k c = search needs
 
 loop-less : tie.Need-loop-less Inv-loop μ-loop
-unfolding most-rows most-order longest-FC
 loop-less c = search needs
 
 loop-again : tie.Need-loop-again Inv-loop μ-loop
-unfolding most-rows most-order longest-FC
 loop-again c =
-    let s = c .before .before in (
+    let s = c .before .before .before in
+    let k = c .before .before .loop .k in (
       search needs,
-      ap (λ (x : ℕ). x + (3 + 4 * s .args .m * getD (s .args .t1) (c .before .loop .k) 0)) (c .before .loop .inv .1)
-          ∙ omega (arith, sum-below-last (c .before .loop .k) (λ i. 3 + 4 * s .args .m * getD (s .args .t1) i 0)),
-      omega (arith, small c),
+      ap₂ _+_ (c .before .before .loop .inv .1) (c .column-bytes .ensures)
+          ∙ omega (arith, sum-below-last k (λ i. column-bytes (s .args .m) (getD (s .args .t1) i 0))),
+      omega (arith, few c),
     )
 
 returns : tie.Need-returns Inv-loop μ-loop
 returns c =
     let s = c .before .before in
     c .before .loop .inv .1
-    ∙ ap (λ (k : ℕ). 8 + (2 + s .args .n) + (2 + 2 * s .args .m) + sum-below k (λ i. 3 + 4 * s .args .m * getD (s .args .t1) i 0)) (omega arith)
+    ∙ ap (λ (k : ℕ). head-bytes (s .args .m) (s .args .n) + sum-below k (λ i. column-bytes (s .args .m) (getD (s .args .t1) i 0))) (omega arith)
 
 pub column-start-spec : {M : Type 1} → statement M
 column-start-spec =
@@ -108,12 +101,10 @@ column-start-spec =
     add-start-3
     add-start-4
     loop-holds
-    mul-start-2
-    mul-start-3
-    array-read-start
-    mul-start-4
+    mul-column-bytes
+    array-read-column-bytes
+    column-bytes-requires
     add-start-5
-    add-start-6
     add-k
     loop-less
     loop-again

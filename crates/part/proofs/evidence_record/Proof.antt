@@ -1,7 +1,7 @@
 use borrow.Author.Needs.{needs}
 use native.Mathlib.Omega.{arith}
 use Rattle.rules.specs.Sizes.{most-rows}
-use Rattle.part.specs.Steps.{evidence-rows, evidence-bytes, evidence-found, evidence-within}
+use Rattle.part.specs.Steps.{evidence-rows, evidence-few, evidence-found, evidence-within}
 use Rattle.part.proofs.evidence_record.Statement.{statement}
 use Rattle.part.proofs.evidence_record.Tie as tie
 
@@ -20,14 +20,14 @@ unfolding most-rows
 mul-size-2 c =
     let s = c .before .before .before .before .before in
     let x = c .before .before .read-problem in
-    omega (arith, evidence-bytes (s .args .problem .now) (s .args .answer .now) (x .result) (x .ensures) (s .pre))
+    omega (arith, evidence-few (s .args .problem .now) (s .args .answer .now) (x .result) (x .ensures) (s .pre))
 
 add-size : tie.Need-add-size
 unfolding most-rows
 add-size c =
     let s = c .before .before .before .before .before in
     let x = c .before .before .read-problem in
-    omega (arith, evidence-bytes (s .args .problem .now) (s .args .answer .now) (x .result) (x .ensures) (s .pre))
+    omega (arith, evidence-few (s .args .problem .now) (s .args .answer .now) (x .result) (x .ensures) (s .pre))
 
 sub-t6 : tie.Need-sub-t6
 sub-t6 c =
