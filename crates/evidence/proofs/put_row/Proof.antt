@@ -19,8 +19,9 @@ loop-holds c = let a = c .before .args in row-start (a .p) (a .entries .now) (a 
 order-coefficient-requires : tie.Need-order-coefficient-requires Inv-loop μ-loop
 order-coefficient-requires c κs =
     let start = c .before .before .before in
-    let l = c .before .loop in
-    (start .pre .0, (start .pre .1 .0, (start .pre .1 .1 .0 .0, (start .pre .1 .1 .0 .1 .1, omega (arith, start .pre .1 .1 .0 .1 .0)))))
+    let columns = start .pre .1 .1 .0 .1 .0 in
+    let row = start .pre .1 .1 .0 .1 .1 in
+    (start .pre .0, (start .pre .1 .0, (start .pre .1 .1 .0 .0, (omega (arith, columns, row), omega (arith, columns, row)))))
 
 put4-requires : tie.Need-put4-requires Inv-loop μ-loop
 put4-requires c κs =
