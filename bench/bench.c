@@ -7,13 +7,11 @@
  * a processor does not count.
  */
 #define _POSIX_C_SOURCE 200809L
+#include "board.h"
 #include "judges.h"
 #include "maker.h"
-#include "stack.h"
+#include "peak.h"
 #include "worked.h"
-#ifdef WITH_BOARD
-#include "board.h"
-#endif
 
 #include <inttypes.h>
 #include <stdio.h>
@@ -28,9 +26,7 @@ static const struct judge {
     const char *name;
     judge_function *call;
 } judges[] = {
-#ifdef WITH_BOARD
     {"board", judge},
-#endif
     {"plain", plain_judge},
 #ifdef WITH_FLINT
     {"FLINT", flint_judge},
@@ -153,34 +149,6 @@ static void print_times(const struct bundle *bundle, const struct files *files)
     printf("\n");
 }
 
-#ifdef WITH_BOARD
-static const struct files *judged;
-
-static void judge_once(void)
-{
-    judge(judged->problem, judged->problem_len, judged->answer, judged->answer_len);
-}
-
-static void make_evidence_once(void)
-{
-    static uint8_t buffer[BOARD_EVIDENCE_MOST];
-    make_evidence(judged->problem, judged->problem_len, judged->answer, judged->answer_without, buffer, sizeof buffer);
-}
-
-static void print_stack(struct files *files[BUNDLES])
-{
-    size_t deepest_judge = 0, deepest_evidence = 0;
-    for (int b = 0; b < BUNDLES; b++)
-        for (int i = 0; i < 50; i++) {
-            judged = &files[b][i];
-            size_t depth = stack_depth(judge_once);
-            deepest_judge = depth > deepest_judge ? depth : deepest_judge;
-            depth = stack_depth(make_evidence_once);
-            deepest_evidence = depth > deepest_evidence ? depth : deepest_evidence;
-        }
-    printf("peak stack of one call: judge %zu bytes, make_evidence %zu bytes\n", deepest_judge, deepest_evidence);
-}
-
 /* Two files of the largest sizes, with the modulus given. */
 static void longest_files(uint32_t p, struct files *files)
 {
@@ -222,7 +190,6 @@ static void print_reading(void)
     printf("reading the longest pair: %.3f us with p = 2; is_prime(2147483647): %.3f us\n",
            reading_time(small.problem, small.problem_len, &small), reading_time(large.problem, UP_TO_P, &large));
 }
-#endif
 
 static struct files *make_bundle(const struct bundle *bundle)
 {
@@ -256,10 +223,9 @@ int main(void)
     print_header();
     for (int b = 0; b < BUNDLES; b++)
         print_times(&bundles[b], files[b]);
-#ifdef WITH_BOARD
-    print_stack(files);
+    struct peak peak = peak_stack();
+    printf("peak stack of one call: judge %zu bytes, make_evidence %zu bytes\n", peak.judge, peak.make_evidence);
     print_reading();
-#endif
     for (int b = 0; b < BUNDLES; b++)
         free(files[b]);
     return differences == 0 ? 0 : 1;

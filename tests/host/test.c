@@ -1,9 +1,10 @@
 /*
  * The archive as a C host sees it: document 01's worked cases, its example on disk with every variant, and one variant for each code,
- * the same that docs/OPERATOR.md shows. Each check prints a line only if it fails; the last line is the tally.
+ * the same that docs/OPERATOR.md shows; and how deep a call goes into the stack. Each check prints a line only if it fails; the last line is the tally.
  */
 #include "board.h"
 #include "files.h"
+#include "peak.h"
 #include "worked.h"
 
 #include <inttypes.h>
@@ -12,7 +13,7 @@
 #include <stdlib.h>
 #include <string.h>
 
-enum { PROBLEM = 36, ANSWER = 58, WITHOUT_EVIDENCE = 48, MOST_CHANGES = 4, GUARD = 0xAA };
+enum { PROBLEM = 36, ANSWER = 58, WITHOUT_EVIDENCE = 48, MOST_CHANGES = 4, GUARD = 0xAA, MOST_STACK = 65536 };
 
 static const uint8_t problem[PROBLEM] = {
     0x50, 0x52, 0x07, 0x00, 0x00, 0x00, 0x02, 0x01, 0x4F, 0x52, 0x02, 0x53, 0x48, 0x00, 0x00, 0x00, 0x00, 0x46,
@@ -148,6 +149,13 @@ static void check_edge(uint32_t p, int order, int shift, const char *name)
     check_verdict(judge(f.problem, f.problem_len, f.answer, f.answer_len), BOARD_PASS, 0, 0, 0, name);
 }
 
+static void check_stack(void)
+{
+    struct peak peak = peak_stack();
+    check(0 < peak.judge && peak.judge < MOST_STACK, "judge takes less than 64 KiB of stack");
+    check(0 < peak.make_evidence && peak.make_evidence < MOST_STACK, "make_evidence takes less than 64 KiB of stack");
+}
+
 int main(void)
 {
     check_variants();
@@ -158,6 +166,7 @@ int main(void)
     check_edge(5, 16, 0, "order 16");
     check_edge(5, 1, -1000, "shift -1,000");
     check_edge(5, 1, 1000, "shift 1,000");
+    check_stack();
     printf("%d passed, %d failed\n", passed, failed);
     return failed == 0 ? EXIT_SUCCESS : EXIT_FAILURE;
 }

@@ -1,5 +1,6 @@
 -- The determinant is alternating, and every alternating function of n rows with n entries is the determinant times its value at the
 -- identity. So det(A·B) = det A · det B, since both sides are alternating functions of the rows of A.
+--   det-alternating, alternating-unique, det-mul   these three
 use mathlib.Core.Path.{_≡_, refl, sym, ap, subst, fun-ext, _∙_}
 use Prim.Native.Nat.{ℕ, zero, suc, _<_, suc-le-suc}
 use native.Mathlib.Nat.{le-of-suc-le-suc, not-suc-le-zero, zero-lt-suc}

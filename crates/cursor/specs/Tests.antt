@@ -1,4 +1,7 @@
--- The code's tests as those of the rules: how many bytes a field has, and the code by which it is refused.
+-- The code's tests as those of the rules.
+--   width-of, Width          how many bytes a field has
+--   between, code-of         the code by which it is refused, or 0
+--   coefficient-of           the test of a coefficient
 use mathlib.Core.Path.{_≡_}
 use mathlib.Core.Logic.{_⊎_}
 use mathlib.Core.Bool.{Bool, true, false, not}

@@ -1,4 +1,9 @@
 -- The `CE` record over the flat arrays, and how it grows number by number.
+--   mark-bytes, row-numbers, flat-evidence         what it is made of
+--   table-last, write-table  a list, and what is written of it, with one member more
+--   RowPut, row-start, row-more, row-done          the numbers of a row, put one after the other
+--   RowsPut, rows-start, rows-more, record-done    the rows, put one after the other, and the whole record
+--   rows-fit                 one row more is still within the record
 use mathlib.Core.Path.{_≡_, refl, sym, ap, ap₂, subst, _∙_}
 use mathlib.Core.List.{List, [], _∷_, _++_, append-nil, append-assoc}
 use Prim.Native.Nat.{ℕ, zero, suc, _+_, _*_, _≤_, _<_, zero-le}

@@ -1,4 +1,6 @@
 -- What loading a file gives.
+--   Within, within-bytes     no more bytes than there is room for
+--   part-length              they are a part of the room
 use mathlib.Core.Path.{_≡_, sym, subst, _∙_}
 use mathlib.Core.List.{List}
 use Prim.Native.Nat.{ℕ, _≤_}

@@ -56,33 +56,33 @@ returns c =
     let s = c .before .before .before in
     let a = s .args in
     let test = c .before .not-reduced in
-    found-as (a .p) (a .m) (a .n) (held s) (a .code) 9 _ _ (c .before .before .match .keys1) (c .fault-if .ensures) (found-not-reduced (a .p) (a .m) (a .n) (held s) (test .result) (test .ensures))
+    found-as (a .p) (a .m) (a .n) (held s) (a .code) _ _ _ (c .before .before .match .keys1) (c .fault-if .ensures) (found-not-reduced (a .p) (a .m) (a .n) (held s) (test .result) (test .ensures))
 
 returns-2 : tie.Need-returns-2
 returns-2 c =
     let s = c .before .before .before in
     let a = s .args in
     let test = c .before .determinant-is-monomial in
-    found-as (a .p) (a .m) (a .n) (held s) (a .code) 10 _ _ (c .before .before .match .keys2) (c .fault-if2 .ensures) (found-not-monomial (a .p) (a .m) (a .n) (held s) (test .result) (test .ensures))
+    found-as (a .p) (a .m) (a .n) (held s) (a .code) _ _ _ (c .before .before .match .keys2) (c .fault-if2 .ensures) (found-not-monomial (a .p) (a .m) (a .n) (held s) (test .result) (test .ensures))
 
 returns-3 : tie.Need-returns-3
 returns-3 c =
     let s = c .before .before in
     let a = s .args in
-    found-as (a .p) (a .m) (a .n) (held s) (a .code) 11 _ _ (c .before .match .keys3) (c .product-fault .ensures) (found-below (a .p) (a .m) (a .n) (held s))
+    found-as (a .p) (a .m) (a .n) (held s) (a .code) _ _ _ (c .before .match .keys3) (c .product-fault .ensures) (found-below (a .p) (a .m) (a .n) (held s))
 
 returns-4 : tie.Need-returns-4
 returns-4 c =
     let s = c .before .before in
     let a = s .args in
-    found-as (a .p) (a .m) (a .n) (held s) (a .code) 12 _ _ (c .before .match .keys4) (c .product-fault2 .ensures) (found-at (a .p) (a .m) (a .n) (held s))
+    found-as (a .p) (a .m) (a .n) (held s) (a .code) _ _ _ (c .before .match .keys4) (c .product-fault2 .ensures) (found-at (a .p) (a .m) (a .n) (held s))
 
 returns-5 : tie.Need-returns-5
 returns-5 c =
     let s = c .before .before .before in
     let a = s .args in
     let test = c .before .low-rank in
-    found-as (a .p) (a .m) (a .n) (held s) (a .code) 13 _ _ (c .before .before .match .keys5) (c .fault-if3 .ensures) (found-low-rank (a .p) (a .m) (a .n) (held s) (test .result) (test .ensures))
+    found-as (a .p) (a .m) (a .n) (held s) (a .code) _ _ _ (c .before .before .match .keys5) (c .fault-if3 .ensures) (found-low-rank (a .p) (a .m) (a .n) (held s) (test .result) (test .ensures))
 
 returns-6 : tie.Need-returns-6
 returns-6 c =
