@@ -1,6 +1,7 @@
 -- What a search for divisors answers.
 --   Found                    true with a number that is such, false if none is
 --   found-one, found-none    the two answers
+--   block                    how many numbers a block of a table has
 --   InBlock                  a place of a block whose number divides p
 --   InTable                  a place of a table whose number divides p, in a block that starts with a number whose square is at most p
 --   OddDivisor               an odd divisor of p from some number on, with a square of at most p
@@ -21,15 +22,19 @@ found-one i h = record { some = λ e. (i, h); none = λ e. absurd (true≢false 
 pub found-none : {Such : ℕ → Type 0} → ((i : ℕ) → ¬ Such i) → Found Such false
 found-none h = record { some = λ e. absurd (false≢true e); none = λ e. h }
 
+-- The numbers of a block of a table.
+abbrev pub block : ℕ
+block = 64
+
 -- The place i is in the block that starts at a, and its number divides p.
 pub record InBlock (q : List ℕ) (a p i : ℕ) : Type 0 where
   pub start : a ≤ i
-  pub end : i < a + 64
+  pub end : i < a + block
   pub divides : getD q i 0 ∣ p
 
 -- The first number of the block of place i.
 abbrev pub first : List ℕ → ℕ → ℕ
-first q i = getD q (i / 64 * 64) 0
+first q i = getD q (i / block * block) 0
 
 -- The place i is in the table, in a block that starts with a number whose square is at most p, and its number divides p.
 pub record InTable (q : List ℕ) (p i : ℕ) : Type 0 where

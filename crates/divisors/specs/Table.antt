@@ -1,4 +1,4 @@
--- A table of numbers to divide by, in blocks of 64, each beside its inverse modulo 2^16.
+-- A table of numbers to divide by, in blocks, each beside its inverse modulo 2^16.
 --   Table, Positive          a table; numbers other than 0
 --   table-positive           a table has no 0
 --   Clear                    no number of a part of the table divides p
@@ -18,13 +18,13 @@ use native.Mathlib.Omega.{arith}
 use borrow.Author.Tests.{le-leb}
 use lib.Dec.{leb}
 use lib.ListN.{length, getD}
-use Rattle.divisors.specs.Found.{first}
+use Rattle.divisors.specs.Found.{block, first}
 use Rattle.divisors.specs.Quotient.{high-part, positive, not-divided}
 
--- The numbers q rise; v has the inverse modulo 2^16 of each; there are whole blocks of 64.
+-- The numbers q rise; v has the inverse modulo 2^16 of each; there are whole blocks.
 pub record Table (q v : List ℕ) : Type 0 where
   pub beside : length v ≡ length q
-  pub blocks : length q % 64 ≡ 0
+  pub blocks : length q % block ≡ 0
   pub inverse : (i : ℕ) → i < length q → getD q i 0 * getD v i 0 % 65536 ≡ 1
   pub rising : (i j : ℕ) → i ≤ j → j < length q → getD q i 0 ≤ getD q j 0
 
@@ -80,13 +80,13 @@ none-open {q} {v} table a h l limit (suc n) count small-l small-h inside bound c
     sum = sym counted ∙ none
 
 -- The first number of a block, at each place of the block …
-pub block-start : (q : List ℕ) (a i : ℕ) → a % 64 ≡ 0 → a ≤ i → i < a + 64 → getD q a 0 ≡ first q i
+pub block-start : (q : List ℕ) (a i : ℕ) → a % block ≡ 0 → a ≤ i → i < a + block → getD q a 0 ≡ first q i
 block-start q a i start lo hi = ap (λ k. getD q k 0) (omega arith)
 
 -- … and from the block on.
-pub block-after : {q v : List ℕ} → Table q v → (a i : ℕ) → a % 64 ≡ 0 → a ≤ i → i < length q → getD q a 0 ≤ first q i
-block-after table a i start lo hi = table .rising a (i / 64 * 64) (omega arith) (omega arith)
+pub block-after : {q v : List ℕ} → Table q v → (a i : ℕ) → a % block ≡ 0 → a ≤ i → i < length q → getD q a 0 ≤ first q i
+block-after table a i start lo hi = table .rising a (i / block * block) (omega arith) (omega arith)
 
 -- Where a block starts before the end of whole blocks, it is whole.
-pub room : {a n : ℕ} → a % 64 ≡ 0 → n % 64 ≡ 0 → a < n → a + 64 ≤ n
+pub room : {a n : ℕ} → a % block ≡ 0 → n % block ≡ 0 → a < n → a + block ≤ n
 room start whole before = omega arith

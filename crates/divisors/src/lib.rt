@@ -12,7 +12,7 @@ ghost use lib.Dec.{leb};
 ghost use lib.ListN.{length};
 ghost use Rattle.divisors.specs.Quotient.{high-part};
 ghost use Rattle.divisors.specs.Table.{Table, Positive, left-open};
-ghost use Rattle.divisors.specs.Found.{Found, InBlock, InTable, OddDivisor};
+ghost use Rattle.divisors.specs.Found.{block, Found, InBlock, InTable, OddDivisor};
 
 // The numbers of a block of a table.
 const BLOCK: usize = 64;
@@ -67,8 +67,8 @@ fn one_within(x: u16, limit: u16) -> u16
 // nothing but 16-bit numbers, so that it is done for eight of them at once.
 fn hits(primes: &[u16], inverses: &[u16], from: usize, high: u16, low: u16, limit: u16) -> u16
     requires { ⌜ length (now inverses) ≡ length (now primes) ⌝ }
-    requires { ⌜ from + 64 ≤ length (now primes) ⌝ }
-    ensures { λ r. ⌜ r ≡ left-open (now (primes .entry)) (now (inverses .entry)) from high low limit 64 ⌝ }
+    requires { ⌜ from + block ≤ length (now primes) ⌝ }
+    ensures { λ r. ⌜ r ≡ left-open (now (primes .entry)) (now (inverses .entry)) from high low limit block ⌝ }
 {
     let mut count: u16 = 0;
     let mut i: usize = 0;
@@ -84,7 +84,7 @@ fn hits(primes: &[u16], inverses: &[u16], from: usize, high: u16, low: u16, limi
 // Whether one of the block divides p, by as many divisions as it takes to find it.
 fn divisor_by_division(primes: &[u16], from: usize, p: u32) -> bool
     requires { ⌜ Positive (now primes) ⌝ }
-    requires { ⌜ from + 64 ≤ length (now primes) ⌝ }
+    requires { ⌜ from + block ≤ length (now primes) ⌝ }
     ensures { λ r. ⌜ Found (InBlock (now (primes .entry)) from p) r ⌝ }
 {
     let mut i = from;
@@ -101,7 +101,7 @@ fn divisor_by_division(primes: &[u16], from: usize, p: u32) -> bool
 // Whether one of the block divides p, with divisions only where the products leave it open.
 fn divisor_in_block(primes: &[u16], inverses: &[u16], from: usize, p: u32) -> bool
     requires { ⌜ Table (now primes) (now inverses) ⌝ }
-    requires { ⌜ from + 64 ≤ length (now primes) ⌝ }
+    requires { ⌜ from + block ≤ length (now primes) ⌝ }
     ensures { λ r. ⌜ Found (InBlock (now (primes .entry)) from p) r ⌝ }
 {
     let high = (p / HALF) as u16;

@@ -14,7 +14,7 @@ use native.Mathlib.Omega.{arith}
 use lib.Dec.{T, eqb, ltb, eqb→eq, ltb→lt}
 use lib.ListN.{length, getD}
 use Rattle.algebra.specs.Prime.{Prime}
-use Rattle.divisors.specs.Found.{Found, InTable, first}
+use Rattle.divisors.specs.Found.{block, Found, InTable, first}
 use Rattle.divisors.specs.Table.{Table}
 use Rattle.primality.specs.Sifted.{Sifted, divided, prime-odd}
 
@@ -99,7 +99,7 @@ rows-of last (q ∷ qs) (v ∷ vs) t =
     rows-cons last q v qs vs (ltb→lt last q more) (eqb→eq (q * v % 65536) 1 inverts) (rows-of q qs vs rest)
 
 -- What passes `rows`, in whole blocks, is a table.
-pub table-of-rows : (q v : List ℕ) → T (rows 0 q v) → length q % 64 ≡ 0 → Table q v
+pub table-of-rows : (q v : List ℕ) → T (rows 0 q v) → length q % block ≡ 0 → Table q v
 table-of-rows q v t whole = let h = rows-of 0 q v t in record { beside = h .beside; blocks = whole; inverse = h .inverse; rising = h .rising }
 
 -- A composite number is not prime.
@@ -167,5 +167,5 @@ sifted-of-found hi lo p q v r t odd three reach table search = record {
     -- the square of a block's first number is at most that of each
     each : ((i : ℕ) → ¬ InTable q p i) → (i : ℕ) → i < length q → getD q i 0 * getD q i 0 ≤ p → ¬ (getD q i 0 ∣ p)
     each none i inside square divides =
-        let le : first q i ≤ getD q i 0 = table .rising (i / 64 * 64) i (omega arith) inside in
+        let le : first q i ≤ getD q i 0 = table .rising (i / block * block) i (omega arith) inside in
         none i (record { inside = inside; square = le-trans (mul-le-mul le le) square; divides = divides })

@@ -10,13 +10,13 @@ use native.Mathlib.Omega.{arith}
 use borrow.Author.Needs.{needs}
 use lib.ListN.{length, getD}
 use Rattle.divisors.specs.Quotient.{product-small}
-use Rattle.divisors.specs.Found.{InBlock, InTable, first, found-one, found-none}
+use Rattle.divisors.specs.Found.{block, InBlock, InTable, first, found-one, found-none}
 use Rattle.divisors.specs.Table.{Table, Clear, clear-empty, clear-both, block-start, block-after, room}
 use Rattle.divisors.proofs.divisor_among.Statement.{statement}
 use Rattle.divisors.proofs.divisor_among.Tie as tie
 
 -- If the first number of a block has a square above p, no number from there on is looked for.
-enough : {q v : List ℕ} {a p : ℕ} → Table q v → a % 64 ≡ 0 → Clear q 0 a p → p < getD q a 0 * getD q a 0 → (i : ℕ) → ¬ InTable q p i
+enough : {q v : List ℕ} {a p : ℕ} → Table q v → a % block ≡ 0 → Clear q 0 a p → p < getD q a 0 * getD q a 0 → (i : ℕ) → ¬ InTable q p i
 enough {q} {v} {a} table start clear above i h =
     by-cases (decLt i a) (λ before. clear .none i (omega arith) before (h .divides)) (λ after. omega (arith, squares (block-after table a i start (omega arith) (h .inside)), h .square))
   where
@@ -24,7 +24,7 @@ enough {q} {v} {a} table start clear above i h =
     squares le = mul-le-mul le le
 
 -- What is found in a block that starts with a square of at most p is found in the table.
-found : {q : List ℕ} {a p : ℕ} (i : ℕ) → a % 64 ≡ 0 → a + 64 ≤ length q → getD q a 0 * getD q a 0 ≤ p → InBlock q a p i → InTable q p i
+found : {q : List ℕ} {a p : ℕ} (i : ℕ) → a % block ≡ 0 → a + block ≤ length q → getD q a 0 * getD q a 0 ≤ p → InBlock q a p i → InTable q p i
 found {q} {a} {p} i start whole square h = record {
   inside = omega (arith, h .end);
   square = rw (sym (block-start q a i start (h .start) (h .end))) square;
@@ -32,7 +32,7 @@ found {q} {a} {p} i start whole square h = record {
 }
 
 abbrev Inv-loop : tie.InvT-loop
-Inv-loop primes inverses p from₀ from = (from ≤ length primes) × ((from % 64 ≡ 0) × Clear primes 0 from p)
+Inv-loop primes inverses p from₀ from = (from ≤ length primes) × ((from % block ≡ 0) × Clear primes 0 from p)
 
 abbrev μ-loop : tie.MeasureT-loop
 μ-loop primes inverses p from₀ from = length primes - from

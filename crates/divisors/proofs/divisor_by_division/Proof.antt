@@ -5,16 +5,16 @@ use Prim.Native.Nat.{_+_, _-_, _%_, _≤_}
 use native.Mathlib.Nat.{dvd-of-mod-eq-zero, mod-eq-zero-of-dvd}
 use native.Mathlib.Omega.{arith}
 use borrow.Author.Needs.{needs}
-use Rattle.divisors.specs.Found.{found-one, found-none}
+use Rattle.divisors.specs.Found.{block, found-one, found-none}
 use Rattle.divisors.specs.Table.{Clear, clear-empty, clear-more}
 use Rattle.divisors.proofs.divisor_by_division.Statement.{statement}
 use Rattle.divisors.proofs.divisor_by_division.Tie as tie
 
 abbrev Inv-loop : tie.InvT-loop
-Inv-loop primes from p i₀ i = (from ≤ i) × ((i ≤ from + 64) × Clear primes from i p)
+Inv-loop primes from p i₀ i = (from ≤ i) × ((i ≤ from + block) × Clear primes from i p)
 
 abbrev μ-loop : tie.MeasureT-loop
-μ-loop primes from p i₀ i = from + 64 - i
+μ-loop primes from p i₀ i = from + block - i
 
 loop-holds : tie.Need-loop-holds Inv-loop μ-loop
 loop-holds c = (omega arith, (omega arith, clear-empty))

@@ -4,7 +4,7 @@ use Prim.Native.Nat.{_+_}
 use native.Mathlib.Nat.{div-add-mod}
 use native.Mathlib.Omega.{arith}
 use borrow.Author.Needs.{needs}
-use Rattle.divisors.specs.Found.{found-none}
+use Rattle.divisors.specs.Found.{block, found-none}
 use Rattle.divisors.specs.Table.{Clear, table-positive, none-open}
 use Rattle.divisors.proofs.divisor_in_block.Statement.{statement}
 use Rattle.divisors.proofs.divisor_in_block.Tie as tie
@@ -32,11 +32,11 @@ returns : tie.Need-returns
 returns c = found-none (λ i h. clear .none i (h .start) (h .end) (h .divides))
   where
     clear : let args = c .before .before .before .before .before .args in
-        Clear (args .primes .now) (args .from) (args .from + 64) (args .p)
+        Clear (args .primes .now) (args .from) (args .from + block) (args .p)
     clear =
         let x = c .before .before .before .before .before in
-        subst (λ y. Clear (x .args .primes .now) (x .args .from) (x .args .from + 64) y) (div-add-mod (x .args .p) 65536)
-        (none-open (x .pre .0) _ _ _ _ 64 _ (omega arith) (omega arith) (x .pre .1) (omega arith) (c .before .hits .ensures) (c .if1 .taken))
+        subst (λ y. Clear (x .args .primes .now) (x .args .from) (x .args .from + block) y) (div-add-mod (x .args .p) 65536)
+        (none-open (x .pre .0) _ _ _ _ block _ (omega arith) (omega arith) (x .pre .1) (omega arith) (c .before .hits .ensures) (c .if1 .taken))
 
 divisor-by-division-requires : tie.Need-divisor-by-division-requires
 divisor-by-division-requires c κs = (table-positive (c .before .before .before .before .before .pre .0), c .before .before .before .before .before .pre .1)

@@ -6,6 +6,7 @@ use Prim.Native.Nat.{ℕ, _-_, _≤_}
 use native.Mathlib.Omega.{arith}
 use borrow.Author.Needs.{needs}
 use lib.Dec.{leb}
+use Rattle.divisors.specs.Found.{block}
 use Rattle.divisors.specs.Table.{left-open, open-more}
 use Rattle.divisors.proofs.hits.Statement.{statement}
 use Rattle.divisors.proofs.hits.Tie as tie
@@ -16,10 +17,10 @@ at-most-one true one e = omega arith
 at-most-one false one e = omega arith
 
 abbrev Inv-loop : tie.InvT-loop
-Inv-loop primes inverses from high low limit count₀ i₀ count i = (count ≡ left-open primes inverses from high low limit i) × ((count ≤ i) × (i ≤ 64))
+Inv-loop primes inverses from high low limit count₀ i₀ count i = (count ≡ left-open primes inverses from high low limit i) × ((count ≤ i) × (i ≤ block))
 
 abbrev μ-loop : tie.MeasureT-loop
-μ-loop primes inverses from high low limit count₀ i₀ count i = 64 - i
+μ-loop primes inverses from high low limit count₀ i₀ count i = block - i
 
 loop-holds : tie.Need-loop-holds Inv-loop μ-loop
 unfolding left-open
