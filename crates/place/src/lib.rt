@@ -1,6 +1,6 @@
 // Where the reading stands, and how it goes on.
 ghost use mathlib.Core.Path.{_≡_};
-ghost use Prim.Native.Nat.{_<_, _+_};
+ghost use Prim.Native.Nat.{_+_, _^_, _<_};
 ghost use Rattle.rules.specs.Reader.{front as front-of};
 ghost use Rattle.rules.specs.ReaderLaws.{moved};
 ghost use Rattle.place.specs.Places.{place, opened-at, after-of, closed-of, finish-of, Numbered};
@@ -61,7 +61,7 @@ pub fn opened(q: Place) -> Place
 // q: a place. k: how many bytes.
 // The place so many bytes on, in the same record.
 pub fn past(q: Place, k: usize) -> Place
-    requires { ⌜ q .at + k < 18446744073709551616 ⌝ }
+    requires { ⌜ q .at + k < 2 ^ 64 ⌝ }
     ensures { λ r. ⌜ place r ≡ moved k (place q) ⌝ }
 {
     Place {
