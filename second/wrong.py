@@ -42,8 +42,8 @@ WRONG = [
     let r = product(problem, basis);\n    for i''')]),
 ('rank without last column',[('verdict.rs','            row.extend(&evidence[i]);','            row.extend(&evidence[i][..evidence[i].len()-1]);')]),
 ('shift unsigned',[('read.rs','if raw >= 32768 { raw as i64 - 65536 } else { raw as i64 }','raw as i64')]),
-('shift limit 999',[('read.rs','(-1000..=1000)','(-999..=1000)')]),
-('shift limit 1001',[('read.rs','(-1000..=1000)','(-1000..=1001)')]),
+('shift limit 999',[('read.rs','(-SHIFT..=SHIFT)','(1 - SHIFT..=SHIFT)')]),
+('shift limit 1001',[('read.rs','(-SHIFT..=SHIFT)','(-SHIFT..=SHIFT + 1)')]),
 ('evidence writes before 14',[('verdict.rs','    if code == 0 {\n','    if lent.len() >= 2 && code != 0 { lent[0]=67; lent[1]=69; }\n    if code == 0 {\n')]),
 ('evidence zeroes after',[('verdict.rs','        lent[..need].copy_from_slice(&record);','        lent.fill(0); lent[..need].copy_from_slice(&record);')]),
 ('evidence at d-1',[('verdict.rs','entry[problem.d[j]] as u32','entry[problem.d[j]-1] as u32')]),
@@ -56,10 +56,10 @@ WRONG = [
 ('fermat',[('field.rs','n <= 2_147_483_647 && is_prime(n)','n <= 2_147_483_647 && n>1 && (n<4 || power(2,n-1,n)==1)')]),
 ('division to 46336',[('field.rs','n <= 2_147_483_647 && is_prime(n)','n <= 2_147_483_647 && n>1 && (2..=46336).take_while(|q| q*q<=n).all(|q| n%q!=0)')]),
 ('2^31-1 refused',[('field.rs','n <= 2_147_483_647 &&','n < 2_147_483_647 &&')]),
-('L 16',[('read.rs','r.between(0, 17)','r.between(0, 16)')]),
-('L 18',[('read.rs','r.between(0, 17)','r.between(0, 18)')]),
-('order 17',[('read.rs','r.between(1, 16)','r.between(1, 17)')]),
-('order 15',[('read.rs','r.between(1, 16)','r.between(1, 15)')]),
+('L 16',[('read.rs','r.between(0, LENGTH as u64)','r.between(0, LENGTH as u64 - 1)')]),
+('L 18',[('read.rs','r.between(0, LENGTH as u64)','r.between(0, LENGTH as u64 + 1)')]),
+('order 17',[('read.rs','r.between(1, ORDER as u64)','r.between(1, ORDER as u64 + 1)')]),
+('order 15',[('read.rs','r.between(1, ORDER as u64)','r.between(1, ORDER as u64 - 1)')]),
 ('coefficient p',[('read.rs','if value >= p {','if value == p { return Ok((at,0)); } if value > p {')]),
 ('no 7',[('read.rs','k + 1 == length && value == 0','k + 1 == length && value == 0 && false'),('read.rs','                basis[i][j].push(value);\n            }','                basis[i][j].push(value);\n            }\n            crate::poly::trim(&mut basis[i][j]);')]),
 ('8 record',[('read.rs','            self.record = self.begun;\n            self.start','            self.record = self.begun-1;\n            self.start')]),
@@ -68,11 +68,11 @@ WRONG = [
 ('p tested after m',[('read.rs','''    if !crate::field::allowed(p) {
         return r.refuse(4, at);
     }
-    let m = r.between(1, 4)? as usize;''','''    let m = r.between(1, 4)? as usize;
+    let m = r.between(1, ROWS as u64)? as usize;''','''    let m = r.between(1, ROWS as u64)? as usize;
     if !crate::field::allowed(p) {
         return r.refuse(4, at);
     }''')]),
-('record whole before fields',[('read.rs','            let length = r.between(0, 17)?;','            let length = r.between(0, 17)?; if r.bytes.len()-r.place<4*length as usize {let n=r.place+(r.bytes.len()-r.place)/4*4; return r.refuse(1,n);}')]),
+('record whole before fields',[('read.rs','            let length = r.between(0, LENGTH as u64)?;','            let length = r.between(0, LENGTH as u64)?; if r.bytes.len()-r.place<4*length as usize {let n=r.place+(r.bytes.len()-r.place)/4*4; return r.refuse(1,n);}')]),
 ('sum Delta without shifts',[('verdict.rs','Ok((0, 0, 0, sum as u64))','Ok((0, 0, 0, (sum + problem.s.iter().sum::<i64>()) as u64))')]),
 ('cut at 16384',[('verdict.rs','    let v = judge(problem, answer)?;','    let problem=&problem[..problem.len().min(16384)]; let answer=&answer[..answer.len().min(16384)];\n    let v = judge(problem, answer)?;')]),
 ]

@@ -11,6 +11,7 @@ mod read;
 mod selftest;
 mod verdict;
 
+use crate::read::ROWS;
 use std::io::{BufWriter, Write};
 use std::process::ExitCode;
 use std::sync::atomic::Ordering;
@@ -225,7 +226,7 @@ fn check(name: &str, output: &str) -> Result<bool, String> {
 
 fn counts(name: &str) -> Result<(), String> {
     let (mut judged, mut made, mut both) = ([0u64; 15], [0u64; 15], 0u64);
-    let (mut passes, mut below, mut at, mut degree) = ([[0u64; 4]; 4], [[0u64; 4]; 4], [[0u64; 4]; 4], 0);
+    let (mut passes, mut below, mut at, mut degree) = ([[0u64; ROWS]; ROWS], [[0u64; ROWS]; ROWS], [[0u64; ROWS]; ROWS], 0);
     let bad = walk(name, |_, said| {
         let said = said?;
         let v = &said.judged;

@@ -4,6 +4,7 @@ use crate::claim::{Claim, File, Kind};
 use crate::field;
 use crate::poly::{self, Poly};
 use crate::random::Random;
+use crate::read::{LENGTH, ORDER, ROWS, SHIFT};
 
 pub struct Case {
     pub problem: Vec<u8>,
@@ -89,14 +90,14 @@ fn some_number(p: u64, random: &mut Random) -> u64 {
 
 fn some_orders(n: usize, random: &mut Random) -> Vec<usize> {
     let kind = random.below(8);
-    let same = 1 + random.below(16);
+    let same = 1 + random.below(ORDER);
     (0..n)
         .map(|_| match kind {
             0 => 1,
             1 => same,
             2 | 3 => 1 + random.below(4),
-            4 => 1 + random.below(16),
-            5 => random.pick(&[1, 2, 15, 16]),
+            4 => 1 + random.below(ORDER),
+            5 => random.pick(&[1, 2, ORDER - 1, ORDER]),
             6 => 1 + random.below(8),
             _ => 1 + random.below(2),
         })
@@ -105,18 +106,18 @@ fn some_orders(n: usize, random: &mut Random) -> Vec<usize> {
 
 fn some_shifts(m: usize, random: &mut Random) -> Vec<i64> {
     let kind = random.below(14);
-    let base = random.pick(&[-1000, -999, -500, -16, -1, 0, 1, 7, 500, 983, 999, 1000]);
+    let base = random.pick(&[-SHIFT, 1 - SHIFT, -500, -16, -1, 0, 1, 7, 500, 983, SHIFT - 1, SHIFT]);
     let step = random.between(-20, 20);
     (0..m)
         .map(|i| match kind {
             0..=2 => 0,
             3 => base,
-            4..=6 => (base + random.between(-1, 1)).clamp(-1000, 1000),
-            7 => (base + random.between(-3, 3)).clamp(-1000, 1000),
-            8 => (base + random.between(0, 8)).clamp(-1000, 1000),
-            9 => (base + random.between(-9, 9)).clamp(-1000, 1000),
-            10 => random.pick(&[-1000, 1000]),
-            11 => random.between(-1000, 1000),
+            4..=6 => (base + random.between(-1, 1)).clamp(-SHIFT, SHIFT),
+            7 => (base + random.between(-3, 3)).clamp(-SHIFT, SHIFT),
+            8 => (base + random.between(0, 8)).clamp(-SHIFT, SHIFT),
+            9 => (base + random.between(-9, 9)).clamp(-SHIFT, SHIFT),
+            10 => random.pick(&[-SHIFT, SHIFT]),
+            11 => random.between(-SHIFT, SHIFT),
             12 => i as i64 * step,
             _ => random.between(-2, 2),
         })
@@ -163,7 +164,7 @@ fn some_series(claim: &mut Claim, random: &mut Random) {
 
 /// A problem with the identity as its answer.
 pub fn some_problem(random: &mut Random, small: bool) -> Claim {
-    let (mut p, mut m, mut n) = (some_prime(random), 1 + random.below(4), 1 + random.below(4));
+    let (mut p, mut m, mut n) = (some_prime(random), 1 + random.below(ROWS), 1 + random.below(ROWS));
     let mut d = some_orders(n, random);
     let mut s = some_shifts(m, random);
     if small {
@@ -196,7 +197,7 @@ pub fn honest(random: &mut Random, small: bool) -> Claim {
     claim.iterate(apart, sorted, random);
     match random.below(10) {
         0..=3 => {}
-        4..=8 => claim.mix(12, 16, random),
+        4..=8 => claim.mix(12, LENGTH - 1, random),
         _ => claim.mix(12, 20, random),
     }
     claim
@@ -240,7 +241,7 @@ pub fn spoil(claim: &mut Claim, way: usize, random: &mut Random) {
             renew = random.chance(30);
         }
         8 => {
-            let power = random.pick(&[15, 16, 16, 16, 17, 17, 18, 30]);
+            let power = random.pick(&[LENGTH - 2, LENGTH - 1, LENGTH - 1, LENGTH - 1, LENGTH, LENGTH, LENGTH + 1, 30]);
             let t = poly::scaled(&vec![1], c, power, p);
             claim.basis[i][k] = poly::add(&claim.basis[i][k], &t, p);
         }
@@ -260,7 +261,7 @@ pub fn spoil(claim: &mut Claim, way: usize, random: &mut Random) {
             renew = false;
         }
         15 => {
-            claim.s[i] = (claim.s[i] + random.pick(&[-17, -16, -3, -2, -1, 1, 2, 3, 16, 17])).clamp(-1000, 1000);
+            claim.s[i] = (claim.s[i] + random.pick(&[-17, -16, -3, -2, -1, 1, 2, 3, 16, 17])).clamp(-SHIFT, SHIFT);
         }
         16 => {
             for row in claim.basis.iter_mut() {
@@ -276,7 +277,7 @@ pub fn spoil(claim: &mut Claim, way: usize, random: &mut Random) {
             }
         }
         18 => {
-            if claim.d[j] < 16 {
+            if claim.d[j] < ORDER {
                 claim.d[j] += 1;
                 for row in claim.f.iter_mut() {
                     row[j].push(some_number(p, random));
@@ -300,7 +301,7 @@ pub fn spoil(claim: &mut Claim, way: usize, random: &mut Random) {
             // a row times X behind a change of the rows that keeps it reduced
             claim.mix(6, 15, random);
             claim.times_row(i, &vec![0, 1]);
-            claim.mix(6, 16, random);
+            claim.mix(6, LENGTH - 1, random);
         }
         23 => {
             for row in claim.evidence.iter_mut() {
@@ -345,7 +346,7 @@ pub fn spoil(claim: &mut Claim, way: usize, random: &mut Random) {
         28 => claim.identity(random.below(3)),
         _ => {
             for row in claim.s.iter_mut() {
-                *row = (*row + random.between(-1, 1)).clamp(-1000, 1000);
+                *row = (*row + random.between(-1, 1)).clamp(-SHIFT, SHIFT);
             }
         }
     }
@@ -376,7 +377,7 @@ fn chance_claim(random: &mut Random) -> Claim {
             }
         }
     }
-    let longest = random.pick(&[1, 1, 2, 2, 3, 4, 17]);
+    let longest = random.pick(&[1, 1, 2, 2, 3, 4, LENGTH]);
     let shape = random.below(5);
     for i in 0..claim.m {
         for k in 0..claim.m {
@@ -411,17 +412,17 @@ fn chance_claim(random: &mut Random) -> Claim {
 fn placed(random: &mut Random) -> Claim {
     let mut claim = some_problem(random, false);
     let (p, m, n) = (claim.p, claim.m, claim.n);
-    claim.s = vec![random.pick(&[-1000, -1, 0, 1, 1000]); m];
+    claim.s = vec![random.pick(&[-SHIFT, -1, 0, 1, SHIFT]); m];
     let largest = *claim.d.iter().max().unwrap();
     if random.chance(50) {
         claim.iterate(random.chance(50), random.chance(50), random);
-        claim.mix(10, 16, random);
+        claim.mix(10, LENGTH - 1, random);
     } else {
         claim.identity(0);
         let several = random.chance(30);
         let faulty = random.below(m);
         for i in 0..m {
-            let power = largest + random.below(17 - largest);
+            let power = largest + random.below(LENGTH - largest);
             let low = i == faulty || several && random.chance(50);
             let power = if low { random.below(largest) } else { power };
             claim.basis[i][i] = poly::scaled(&vec![1], 1, power, p);
@@ -454,17 +455,17 @@ fn placed(random: &mut Random) -> Claim {
 /// The longest files: 1,060 and 1,234 bytes.
 fn longest(random: &mut Random) -> Claim {
     let mut claim = some_problem(random, false);
-    (claim.m, claim.n) = (4, 4);
-    claim.d = vec![16; 4];
-    claim.s = some_shifts(4, random);
-    claim.f = vec![vec![vec![0; 16]; 4]; 4];
+    (claim.m, claim.n) = (ROWS, ROWS);
+    claim.d = vec![ORDER; ROWS];
+    claim.s = some_shifts(ROWS, random);
+    claim.f = vec![vec![vec![0; ORDER]; ROWS]; ROWS];
     some_series(&mut claim, random);
     claim.identity(0);
     let p = claim.p;
     for row in claim.basis.iter_mut() {
         for e in row.iter_mut() {
-            *e = (0..17).map(|_| random.next() % p).collect();
-            e[16] = 1 + random.next() % (p - 1).max(1);
+            *e = (0..LENGTH).map(|_| random.next() % p).collect();
+            e[LENGTH - 1] = 1 + random.next() % (p - 1).max(1);
         }
     }
     claim.attest();
@@ -757,20 +758,20 @@ impl Maker {
             self.prime_claim(p);
         }
         // every m and n
-        for m in 1..=4 {
-            for n in 1..=4 {
+        for m in 1..=ROWS {
+            for n in 1..=ROWS {
                 for kind in 0..4 {
                     let mut claim = some_problem(&mut self.random, false);
                     (claim.m, claim.n) = (m, n);
-                    claim.d = (0..n).map(|_| [1, 2, 16, 1 + self.random.below(16)][kind]).collect();
-                    claim.s = vec![[0, -1000, 1000, 3][kind]; m];
+                    claim.d = (0..n).map(|_| [1, 2, ORDER, 1 + self.random.below(ORDER)][kind]).collect();
+                    claim.s = vec![[0, -SHIFT, SHIFT, 3][kind]; m];
                     claim.f = (0..m).map(|_| claim.d.iter().map(|d| vec![0; *d]).collect()).collect();
                     let p = claim.p;
                     for x in claim.f.iter_mut().flatten().flatten() {
                         *x = self.random.next() % p;
                     }
                     claim.iterate(kind % 2 == 0, kind < 2, &mut self.random);
-                    claim.mix(8, 16, &mut self.random);
+                    claim.mix(8, LENGTH - 1, &mut self.random);
                     self.both(&claim);
                     self.put(claim.problem().bytes, claim.answer(false).bytes, 1 + 4 * m * n);
                     self.put(claim.problem().bytes, claim.answer(false).bytes, 3 + 4 * m * n);

@@ -1,5 +1,11 @@
 //! The two files, read front to back, field by field.
 
+/// The sizes of document 01: of m and n, of an order, of a shift either way, of the coefficients in one entry.
+pub const ROWS: usize = 4;
+pub const ORDER: usize = 16;
+pub const SHIFT: i64 = 1000;
+pub const LENGTH: usize = 17;
+
 pub struct Problem {
     pub p: u64,
     pub m: usize,
@@ -119,19 +125,19 @@ pub fn problem(bytes: &[u8]) -> Result<Problem, Refusal> {
     if !crate::field::allowed(p) {
         return r.refuse(4, at);
     }
-    let m = r.between(1, 4)? as usize;
-    let n = r.between(1, 4)? as usize;
+    let m = r.between(1, ROWS as u64)? as usize;
+    let n = r.between(1, ROWS as u64)? as usize;
     r.begin("OR")?;
     let mut d = Vec::new();
     for _ in 0..n {
-        d.push(r.between(1, 16)? as usize);
+        d.push(r.between(1, ORDER as u64)? as usize);
     }
     r.begin("SH")?;
     let mut s = Vec::new();
     for _ in 0..m {
         let (at, raw) = r.field(2)?;
         let shift = if raw >= 32768 { raw as i64 - 65536 } else { raw as i64 };
-        if !(-1000..=1000).contains(&shift) {
+        if !(-SHIFT..=SHIFT).contains(&shift) {
             return r.refuse(3, at);
         }
         s.push(shift);
@@ -161,7 +167,7 @@ pub fn answer(bytes: &[u8], problem: &Problem, with_evidence: bool) -> Result<An
             r.begin("PE")?;
             r.number(i as u64)?;
             r.number(j as u64)?;
-            let length = r.between(0, 17)?;
+            let length = r.between(0, LENGTH as u64)?;
             for k in 0..length {
                 let (at, value) = r.coefficient(problem.p)?;
                 if k + 1 == length && value == 0 {

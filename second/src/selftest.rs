@@ -6,6 +6,7 @@ use crate::make;
 use crate::plain;
 use crate::poly;
 use crate::random::Random;
+use crate::read::LENGTH;
 use crate::verdict;
 
 #[derive(Default)]
@@ -184,7 +185,7 @@ fn primes(t: &mut Tally) {
 fn files(t: &mut Tally, random: &mut Random) {
     for round in 0..120 {
         let claim = make::honest(random, round % 2 == 0);
-        if claim.basis.iter().flatten().any(|e| e.len() > 17) {
+        if claim.basis.iter().flatten().any(|e| e.len() > LENGTH) {
             continue;
         }
         let two = [claim.problem(), claim.answer(true)];
@@ -254,7 +255,7 @@ fn honest(t: &mut Tally, random: &mut Random) {
     let (mut passes, mut large) = (0, 0);
     for round in 0..1500 {
         let claim = make::honest(random, round % 2 == 0);
-        if claim.basis.iter().flatten().any(|e| e.len() > 17) {
+        if claim.basis.iter().flatten().any(|e| e.len() > LENGTH) {
             large += 1;
         }
         let due = if lifted(&claim) { 9 } else { 0 };
