@@ -1,7 +1,8 @@
 -- What a verdict of the code means in the words of document 01.
-use mathlib.Core.Path.{_≡_, refl}
+--   refusal-of, meant        a refusal of reading, and a verdict
+--   four-of                  the four numbers
 use Rattle.rules.specs.Reader.{Refusal as RefusalOf}
-use Rattle.rules.specs.Verdict.{Verdict as VerdictOf, Numbers, passed, unread, not-reduced, not-monomial, below-order, at-order, low-rank, no-room, written, numbers}
+use Rattle.rules.specs.Verdict.{Verdict as VerdictOf, Numbers, passed, unread, not-reduced, not-monomial, below-order, at-order, low-rank, no-room, written}
 use Rattle.verdict.specs.declared.Refusal.{Refusal}
 use Rattle.verdict.specs.declared.Four.{Four}
 use Rattle.verdict.specs.declared.Verdict.{Verdict}
@@ -23,27 +24,3 @@ meant (Written k) = written k
 
 abbrev pub four-of : Four → Numbers
 four-of f = record { code = f .code; file = f .file; number = f .number; at = f .at }
-
--- "A verdict is four numbers: code, file, record, at.": those of each kind of answer, as the rules give them.
-abbrev pub four-of-verdict : Verdict → Numbers
-four-of-verdict (Passed d) = record { code = 0; file = 0; number = 0; at = d }
-four-of-verdict (Unread r) = record { code = r .code; file = r .file; number = r .number; at = r .at }
-four-of-verdict NotReduced = record { code = 9; file = 0; number = 0; at = 0 }
-four-of-verdict NotMonomial = record { code = 10; file = 0; number = 0; at = 0 }
-four-of-verdict (BelowOrder i j) = record { code = 11; file = 2; number = i; at = j }
-four-of-verdict (AtOrder i j) = record { code = 12; file = 2; number = i; at = j }
-four-of-verdict LowRank = record { code = 13; file = 0; number = 0; at = 0 }
-four-of-verdict (NoRoom k) = record { code = 14; file = 0; number = 0; at = k }
-four-of-verdict (Written k) = record { code = 0; file = 0; number = 0; at = k }
-
-pub four-of-verdict-is : (v : Verdict) → four-of-verdict v ≡ numbers (meant v)
-unfolding numbers
-four-of-verdict-is (Passed d) = refl
-four-of-verdict-is (Unread r) = refl
-four-of-verdict-is NotReduced = refl
-four-of-verdict-is NotMonomial = refl
-four-of-verdict-is (BelowOrder i j) = refl
-four-of-verdict-is (AtOrder i j) = refl
-four-of-verdict-is LowRank = refl
-four-of-verdict-is (NoRoom k) = refl
-four-of-verdict-is (Written k) = refl

@@ -1,12 +1,12 @@
 -- Two results that satisfy a contract of this crate, or of one whose results are verdicts, are equal.
 use mathlib.Core.Path.{_≡_, refl, sym, ap, _∙_}
 use Rattle.rules.specs.Reader.{Refusal as RefusalOf}
-use Rattle.rules.specs.Verdict.{Verdict as VerdictOf, Numbers, passed, unread, not-reduced, not-monomial, below-order, at-order, low-rank, no-room, written}
+use Rattle.rules.specs.Verdict.{Verdict as VerdictOf, Numbers, passed, unread, not-reduced, not-monomial, below-order, at-order, low-rank, no-room, written, numbers}
 use Rattle.verdict.specs.declared.Refusal.{Refusal}
 use Rattle.verdict.specs.declared.Four.{Four}
 use Rattle.verdict.specs.declared.Verdict.{Verdict}
 use Rattle.verdict.specs.declared.Verdict.the-variants.{Passed, Unread, NotReduced, NotMonomial, BelowOrder, AtOrder, LowRank, NoRoom, Written}
-use Rattle.verdict.specs.Meant.{four-of, four-of-verdict, meant}
+use Rattle.verdict.specs.Meant.{four-of, meant}
 
 -- The code's verdict that means a verdict of the rules.
 abbrev refusal-for : RefusalOf → Refusal
@@ -42,5 +42,5 @@ meant-unique v w e = sym (verdict-for-meant v) ∙ ap verdict-for e ∙ verdict-
 abbrev four-for : Numbers → Four
 four-for n = record { code = n .code; file = n .file; number = n .number; at = n .at }
 
-pub numbers-unique : (v : Verdict) (r r′ : Four) → four-of r ≡ four-of-verdict v → four-of r′ ≡ four-of-verdict v → r ≡ r′
+pub numbers-unique : (v : Verdict) (r r′ : Four) → four-of r ≡ numbers (meant v) → four-of r′ ≡ numbers (meant v) → r ≡ r′
 numbers-unique v r r′ e e′ = ap four-for (e ∙ sym e′)

@@ -1,8 +1,8 @@
 // The verdict: one case for each kind of answer, and the one number that packs its four.
 ghost use mathlib.Core.Path.{_≡_};
 ghost use Prim.Native.Nat.{_+_, _*_};
-ghost use Rattle.rules.specs.Verdict.{packed};
-ghost use Rattle.verdict.specs.Meant.{four-of, four-of-verdict};
+ghost use Rattle.rules.specs.Verdict.{numbers, packed};
+ghost use Rattle.verdict.specs.Meant.{meant, four-of};
 
 // A refusal of reading: its code, file and record, the offset of the field, and that of the record's first byte.
 pub struct Refusal {
@@ -56,7 +56,7 @@ fn together(code: u8, file: u8, number: u16, at: u32) -> Four
 
 // The numbers that document 01 gives for each kind of answer.
 pub fn numbers(v: Verdict) -> Four
-    ensures { λ r. ⌜ four-of r ≡ four-of-verdict v ⌝ }
+    ensures { λ r. ⌜ four-of r ≡ numbers (meant v) ⌝ }
 {
     match v {
         Verdict::Passed(d) => together(0, 0, 0, d),
@@ -73,7 +73,7 @@ pub fn numbers(v: Verdict) -> Four
 
 // code + 256 × file + 65,536 × record + 4,294,967,296 × at: no bit is lost.
 pub fn pack(v: Verdict) -> u64
-    ensures { λ r. ⌜ r ≡ packed (four-of-verdict v) ⌝ }
+    ensures { λ r. ⌜ r ≡ packed (numbers (meant v)) ⌝ }
 {
     let n = numbers(v);
     n.code as u64 + 256 * (n.file as u64) + 65536 * (n.number as u64) + 4294967296 * (n.at as u64)

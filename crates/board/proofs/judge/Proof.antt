@@ -1,7 +1,6 @@
 use borrow.Author.Needs.{needs}
 use mathlib.Core.Path.{ap, _∙_}
 use Rattle.rules.specs.Verdict.{numbers, packed}
-use Rattle.verdict.specs.Meant.{four-of-verdict-is}
 use Rattle.board.proofs.judge.Statement.{statement}
 use Rattle.board.proofs.judge.Tie as tie
 use Rattle.board.proofs.judge_files.Reads as judge-files-reads
@@ -16,7 +15,7 @@ pack-requires c κs = search needs
 returns : tie.Need-returns
 returns c =
     let judged = c .before .judge-files in
-    c .pack .ensures ∙ ap packed (four-of-verdict-is (judged .result) ∙ ap numbers (judged .ensures))
+    c .pack .ensures ∙ ap (λ v. packed (numbers v)) (judged .ensures)
 
 pub judge-spec : {M : Type 1} → statement M
 judge-spec = tie.close (tie.spec judge-files-requires pack-requires returns)

@@ -1,7 +1,6 @@
 use borrow.Author.Needs.{needs}
 use mathlib.Core.Path.{ap, _∙_}
 use Rattle.rules.specs.Verdict.{numbers, packed}
-use Rattle.verdict.specs.Meant.{four-of-verdict-is}
 use Rattle.board.proofs.make_evidence.Statement.{statement}
 use Rattle.board.proofs.make_evidence.Tie as tie
 use Rattle.board.proofs.evidence_files.Reads as evidence-files-reads
@@ -19,7 +18,7 @@ same-length c = search needs
 returns : tie.Need-returns
 returns c =
     let made = c .before .before .before .evidence-files in
-    (c .pack .ensures ∙ ap packed (four-of-verdict-is (made .result) ∙ ap numbers (made .ensures .0)), made .ensures .1)
+    (c .pack .ensures ∙ ap (λ v. packed (numbers v)) (made .ensures .0), made .ensures .1)
 
 pub make-evidence-spec : {M : Type 1} → statement M
 make-evidence-spec = tie.close (tie.spec evidence-files-requires pack-requires same-length returns)

@@ -1,6 +1,7 @@
 use mathlib.Core.Path.{sym, ap, _∙_}
 use borrow.Author.Needs.{needs}
-use Rattle.verdict.specs.Meant.{four-of-verdict}
+use Rattle.rules.specs.Verdict.{numbers}
+use Rattle.verdict.specs.Meant.{meant}
 use Rattle.verdict.proofs.numbers.Statement.{statement}
 use Rattle.verdict.proofs.numbers.Tie as tie
 
@@ -59,31 +60,40 @@ together-requires-9 : tie.Need-together-requires-9
 together-requires-9 c κs = search needs
 
 returns : tie.Need-returns
-returns c = c .together .ensures ∙ sym (ap four-of-verdict (c .before .before .v .given .1))
+unfolding numbers
+returns c = c .together .ensures ∙ sym (ap (λ v. numbers (meant v)) (c .before .before .v .given .1))
 
 returns-2 : tie.Need-returns-2
-returns-2 c = c .together2 .ensures ∙ sym (ap four-of-verdict (c .before .before .v2 .given .1))
+unfolding numbers
+returns-2 c = c .together2 .ensures ∙ sym (ap (λ v. numbers (meant v)) (c .before .before .v2 .given .1))
 
 returns-3 : tie.Need-returns-3
-returns-3 c = c .together3 .ensures ∙ sym (ap four-of-verdict (c .before .enum-told .given .1))
+unfolding numbers
+returns-3 c = c .together3 .ensures ∙ sym (ap (λ v. numbers (meant v)) (c .before .enum-told .given .1))
 
 returns-4 : tie.Need-returns-4
-returns-4 c = c .together4 .ensures ∙ sym (ap four-of-verdict (c .before .enum-told2 .given .1))
+unfolding numbers
+returns-4 c = c .together4 .ensures ∙ sym (ap (λ v. numbers (meant v)) (c .before .enum-told2 .given .1))
 
 returns-5 : tie.Need-returns-5
-returns-5 c = c .together5 .ensures ∙ sym (ap four-of-verdict (c .before .before .v3 .given .1))
+unfolding numbers
+returns-5 c = c .together5 .ensures ∙ sym (ap (λ v. numbers (meant v)) (c .before .before .v3 .given .1))
 
 returns-6 : tie.Need-returns-6
-returns-6 c = c .together6 .ensures ∙ sym (ap four-of-verdict (c .before .before .v4 .given .1))
+unfolding numbers
+returns-6 c = c .together6 .ensures ∙ sym (ap (λ v. numbers (meant v)) (c .before .before .v4 .given .1))
 
 returns-7 : tie.Need-returns-7
-returns-7 c = c .together7 .ensures ∙ sym (ap four-of-verdict (c .before .enum-told3 .given .1))
+unfolding numbers
+returns-7 c = c .together7 .ensures ∙ sym (ap (λ v. numbers (meant v)) (c .before .enum-told3 .given .1))
 
 returns-8 : tie.Need-returns-8
-returns-8 c = c .together8 .ensures ∙ sym (ap four-of-verdict (c .before .before .v5 .given .1))
+unfolding numbers
+returns-8 c = c .together8 .ensures ∙ sym (ap (λ v. numbers (meant v)) (c .before .before .v5 .given .1))
 
 returns-9 : tie.Need-returns-9
-returns-9 c = c .together9 .ensures ∙ sym (ap four-of-verdict (c .before .before .v6 .given .1))
+unfolding numbers
+returns-9 c = c .together9 .ensures ∙ sym (ap (λ v. numbers (meant v)) (c .before .before .v6 .given .1))
 
 pub numbers-spec : {M : Type 1} → statement M
 numbers-spec =
