@@ -1,7 +1,13 @@
 -- The printed line in pieces, and how many bytes each takes.
-use mathlib.Core.Path.{_≡_, sym, ap, subst, _∙_}
+--   numbers-room, room       what the four numbers need at most, and a line; room-reached: some line needs all of it
+--   unpacked                 the four numbers of a verdict out of the one that packs them
+--   four-numbers             the four numbers with single spaces: four-numbers-length
+--   digits-small, digits-large, digits-length, digits-more, appended-digit       the digits of a number, one after the other
+--   digits-byte, digits-short, digits-word     how many there are at most
+--   line-passed, line-refused          the two kinds of line in pieces
+use mathlib.Core.Path.{_≡_, refl, sym, ap, subst, _∙_}
 use mathlib.Core.List.{List, [], _∷_, _++_, append-assoc}
-use Prim.Native.Nat.{ℕ, zero, suc, _+_, _/_, _%_, _^_, _≤_, _<_, zero-le, suc-le-suc}
+use Prim.Native.Nat.{ℕ, zero, suc, _+_, _-_, _/_, _%_, _^_, _≤_, _<_, zero-le, suc-le-suc}
 use native.Mathlib.Nat.{not-suc-le-zero}
 use native.Mathlib.Omega.{arith}
 use native.Mathlib.Decide.{decLt}
@@ -12,9 +18,13 @@ use lib.ListN.{length, set, length-append}
 use Rattle.rules.specs.Verdict.{Numbers, four}
 use Rattle.writer.specs.Appended.{Appended, appended-byte, appended-both}
 
--- What a line needs at most.
+-- What the four numbers need at most: 3, 3, 5 and 10 digits, and three spaces.
+abbrev pub numbers-room : ℕ
+numbers-room = 24
+
+-- What a line needs at most: `refuse`, a space, the four numbers and a line feed.
 abbrev pub room : ℕ
-room = 40
+room = 7 + numbers-room + 1
 
 -- The four numbers of a verdict out of the one that packs them.
 unfoldable pub unpacked : ℕ → Numbers
@@ -84,7 +94,12 @@ pub line-refused : (v : Numbers) → (v .code ≡ 0 → ⊥) → line-of v ≡ r
 unfolding line-of
 line-refused v h = rw (ne-eqb (v .code) 0 h, line-of) (simp append-assoc)
 
-pub four-numbers-length : (v : ℕ) → v < 2 ^ 64 → length (four-numbers (unpacked v)) ≤ 24
+pub four-numbers-length : (v : ℕ) → v < 2 ^ 64 → length (four-numbers (unpacked v)) ≤ numbers-room
 unfolding unpacked
 four-numbers-length v h =
     simp length-append (omega (arith, digits-byte v, digits-byte (v / 256), digits-short (v / 65_536), digits-word v h))
+
+-- The line of the largest packed number needs all the room.
+pub room-reached : length (line-of (unpacked (2 ^ 64 - 1))) ≡ room
+unfolding line-of unpacked digits-within
+room-reached = refl

@@ -3,12 +3,12 @@ ghost use mathlib.Core.List.{_++_};
 ghost use Prim.Native.Nat.{_+_, _≤_, _<_};
 ghost use lib.ListN.{length};
 ghost use Rattle.rules.specs.Print.{digits, space, line-of};
-ghost use Rattle.line.specs.Text.{room, four-numbers, unpacked};
+ghost use Rattle.line.specs.Text.{room, numbers-room, four-numbers, unpacked};
 ghost use Rattle.writer.specs.Appended.{Appended};
 use writer::put_text;
 
-// What a line needs at most: a word, four numbers, three spaces and a line feed.
-pub const ROOM: usize = 40;
+// What a line needs at most: `refuse 255 255 65535 4294967295` and a line feed.
+pub const ROOM: usize = 32;
 
 // Puts the decimal digits of `n` at `at` and gives the place after them.
 fn put_number(out: &mut [u8], at: usize, n: u32) -> usize
@@ -35,7 +35,7 @@ fn put_spaced(out: &mut [u8], at: usize, n: u32) -> usize
 
 // Puts the four numbers of a refusal, with single spaces, at `at` and gives the place after them.
 fn put_numbers(out: &mut [u8], at: usize, v: u64) -> usize
-    requires { ⌜ at + room ≤ length (now out) + 8 ⌝ }
+    requires { ⌜ at + numbers-room ≤ length (now out) ⌝ }
     ensures { λ r. ⌜ Appended (now (out .entry)) (now (out .exit)) at r (four-numbers (unpacked v)) ⌝ }
 {
     let code = put_number(out, at, (v % 256) as u32);
