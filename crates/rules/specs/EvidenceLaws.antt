@@ -21,8 +21,8 @@ use lib.ListN.{length, getD, take, drop, length-append, length-drop, List·getD-
 use lib.Seq.{take-at, drop-at}
 use Rattle.algebra.specs.Residue.{residue-below}
 use Rattle.rules.specs.Claim.{Problem, Answer}
-use Rattle.rules.specs.Reader.{Place, Refusal, Result, refused, got, next, front}
-use Rattle.rules.specs.Files.{answer-reader, read-claim, read-basis}
+use Rattle.rules.specs.Reader.{Place, Refusal, Result, refused, got, front}
+use Rattle.rules.specs.Files.{answer-reader, claim-of, read-claim, read-basis}
 use Rattle.rules.specs.Matrices.{order, product}
 use Rattle.rules.specs.Conditions.{order-fault}
 use Rattle.rules.specs.Valid.{ValidProblem, ValidBasis, ValidAnswer}
@@ -31,6 +31,7 @@ use Rattle.rules.specs.Writer.{write-CE, write-answer}
 use Rattle.rules.specs.Evidence.{Made, table, evidence-of, evidence-size, make-evidence}
 use Rattle.rules.specs.ByteNumbers.{AllBytes}
 use Rattle.rules.specs.ProductLaws.{no-order-fault-iff}
+use Rattle.rules.specs.BothFiles.{both-read}
 use Rattle.rules.specs.Ranges.{basis-got, read-basis-valid}
 use Rattle.rules.specs.RoundTrip.{written-basis, read-written-answer}
 use Rattle.rules.specs.BoolLaws.{true-iff, false-iff}
@@ -114,14 +115,10 @@ evidence-read s t bytes {c} {q} h =
 -- So the two files are read as the claim of that problem, that basis and that evidence.
 pub evidence-claim : (s t : List ℕ) → AllBytes t → {c : Problem × List (List (List ℕ))} {q : Place} → read-basis s t ≡ got c q
     → (r : Place) × (read-claim s (t ++ write-CE (evidence-of (c .0) (c .1))) ≡ got (record { problem = c .0; answer = with-evidence (c .0) (c .1) }) r)
-unfolding read-claim next
 evidence-claim s t bytes {c} {q} h =
     let (p, e, f) = basis-got s t c q h in
-    let (r, k) = evidence-read s t bytes h in (
-      r,
-      ap (λ x. next x (λ b q. next (answer-reader b (t ++ write-CE (evidence-of (c .0) (c .1))) (front 1)) (λ a q. got (record { problem = b; answer = a }) q))) e
-          ∙ ap (λ x. next x (λ a q. got (record { problem = c .0; answer = a }) q)) k,
-    )
+    let (r, k) = evidence-read s t bytes h in
+    (r, both-read answer-reader claim-of s (t ++ write-CE (evidence-of (c .0) (c .1))) e k)
 
 -- THE BUFFER
 

@@ -2,7 +2,8 @@
 --   allowed-prime, one-to, due, residue, shift-in-size, coefficient-test      the fields' own tests
 --   PR, OR, SH, FC, PE, CE   the records
 --   problem-reader, answer-reader, basis-reader      the files: a problem, an answer, an answer that ends after the last `PE`
---   read-problem, read-claim, read-basis             one after the other
+--   read-problem, read-both  the problem's file, and both files, one after the other
+--   read-claim, read-basis   a problem and an answer to it, and a problem and an answer without evidence
 use mathlib.Core.Bool.{Bool, true, false, cond, not}
 use mathlib.Core.List.{List}
 use Prim.Native.Nat.{ℕ, zero, suc, _-_, _%_}
@@ -122,14 +123,24 @@ basis-reader b = do
   P ← entries-reader (b .p) (b .m)
   end P
 
--- "the whole problem before the answer"
+-- The problem's file.
 unfoldable pub read-problem : List ℕ → Result Problem
 read-problem s = problem-reader s (front 0)
 
+-- "Reading goes front to back, the whole problem before the answer": an answer of any kind, and what it makes together with the problem.
+unfoldable pub read-both : {A B : Type 0} → (Problem → Reader A) → (Problem → A → B) → List ℕ → List ℕ → Result B
+read-both answer whole s t = next (read-problem s) (λ b q. next (answer b t (front 1)) (λ a q. got (whole b a) q))
+
+abbrev pub claim-of : Problem → Answer → Claim
+claim-of b a = record { problem = b; answer = a }
+
 -- A problem, and an answer to it.
-unfoldable pub read-claim : List ℕ → List ℕ → Result Claim
-read-claim s t = next (read-problem s) (λ b q. next (answer-reader b t (front 1)) (λ a q. got (record { problem = b; answer = a }) q))
+abbrev pub read-claim : List ℕ → List ℕ → Result Claim
+read-claim = read-both answer-reader claim-of
+
+abbrev pub basis-for : Problem → List (List (List ℕ)) → Problem × List (List (List ℕ))
+basis-for b P = (b, P)
 
 -- A problem, and an answer without evidence.
-unfoldable pub read-basis : List ℕ → List ℕ → Result (Problem × List (List (List ℕ)))
-read-basis s t = next (read-problem s) (λ b q. next (basis-reader b t (front 1)) (λ P q. got (b, P) q))
+abbrev pub read-basis : List ℕ → List ℕ → Result (Problem × List (List (List ℕ)))
+read-basis = read-both basis-reader basis-for

@@ -12,8 +12,8 @@ use lib.IntN.{pos, natAbs}
 use lib.ListN.{length, getD, take, replicate, length-replicate, getD-replicate, List·getD-eq-default}
 use Rattle.rules.specs.Sizes.{most-rows, most-order, most-length, largest-prime, most-shift, read-limit}
 use Rattle.rules.specs.Claim.{Problem, Answer, Claim}
-use Rattle.rules.specs.Reader.{Place, Result, refused, got, front, next}
-use Rattle.rules.specs.Files.{answer-reader, basis-reader, read-problem, read-claim, read-basis, no-divisor, is-prime}
+use Rattle.rules.specs.Reader.{Place, Result, refused, got, Reader, front, next}
+use Rattle.rules.specs.Files.{answer-reader, basis-reader, read-problem, read-both, claim-of, read-claim, basis-for, no-divisor, is-prime}
 use Rattle.rules.specs.Writer.{bytes, write-each, unsigned, write-PR, write-OR, write-SH, write-FC, write-PE, write-CE, write-basis, write-problem}
 use Rattle.rules.specs.Writer.{write-answer}
 use Rattle.rules.specs.Matrices.{order, at}
@@ -21,7 +21,7 @@ use Rattle.rules.specs.Valid.{ValidProblem, ValidAnswer}
 use Rattle.rules.specs.Verdict.{Verdict, unread, judge-claim, verdict}
 use Rattle.rules.specs.Evidence.{make-evidence}
 use Rattle.rules.specs.EvidenceLaws.{evidence-of-reading}
-use Rattle.rules.specs.ReaderLaws.{next-cong}
+use Rattle.rules.specs.ReaderLaws.{next-cong, Sound}
 use Rattle.rules.specs.FieldTests.{is-prime-iff}
 use Rattle.rules.specs.RoundTrip.{read-written-problem, read-written-basis, read-written-claim}
 use Rattle.rules.specs.Soundness.{longest-FC, longest-problem, longest-PE, longest-basis, longest-answer, sound-problem, sound-basis, sound-answer}
@@ -150,33 +150,26 @@ longest-answer-reached =
     let (q, e) = read-written-claim c (record { valid-problem = large-problem-valid; valid-answer = large-answer-valid }) in
     (write-problem large-problem, write-answer large-answer, c, q, e, refl)
 
--- Two files are read as what stands in front of any offset behind the longest files.
-pub read-claim-front : (s t : List ℕ) (N : ℕ) → longest-problem < N → longest-answer < N → read-claim (take N s) (take N t) ≡ read-claim s t
-unfolding read-claim read-problem
-read-claim-front s t N hs ht =
-    ap (λ x. next x (λ b q. next (answer-reader b (take N t) (front 1)) (λ a q. got (record { problem = b; answer = a }) q)))
-    (sound-problem .looks s (front 0) N (omega arith))
+-- Two files are read as what stands in front of any offset behind the longest files, whatever kind of answer it is.
+both-front : {A B : Type 0} (answer : Problem → Reader A) (whole : Problem → A → B) {Q : Problem → A → Type 0} {k c : ℕ}
+    → ((b : Problem) → ValidProblem b → Sound k c (Q b) (answer b)) → (s t : List ℕ) (N : ℕ) → longest-problem < N → k < N
+    → read-both answer whole (take N s) (take N t) ≡ read-both answer whole s t
+unfolding read-both read-problem
+both-front answer whole sound s t N hs ht =
+    ap (λ x. next x (λ b q. next (answer b (take N t) (front 1)) (λ a q. got (whole b a) q))) (sound-problem .looks s (front 0) N (omega arith))
     ∙ next-cong (read-problem s) _ _
-    (λ b q e. ap (λ x. next x (λ a q. got (record { problem = b; answer = a }) q)) (sound-answer b (problem-valid s e) .looks t (front 1) N (omega arith)))
+    (λ b q e. ap (λ x. next x (λ a q. got (whole b a) q)) (sound b (problem-valid s e) .looks t (front 1) N (omega arith)))
 
 -- "reads at most 16,384 bytes of each (which changes no verdict)"
 pub verdict-limit : (s t : List ℕ) → verdict (take read-limit s) (take read-limit t) ≡ verdict s t
 unfolding verdict read-limit
 verdict-limit s t =
     ap (λ (x : Result Claim). elim x as (λ x. Verdict) [ refused r ↦ unread r | got c q ↦ judge-claim c ])
-    (read-claim-front s t read-limit (omega (arith, longest-problem-is)) (omega (arith, longest-answer-is)))
-
--- A problem and a basis are read as what stands in front of any offset behind the longest files.
-pub read-basis-front : (s t : List ℕ) (N : ℕ) → longest-problem < N → longest-basis < N → read-basis (take N s) (take N t) ≡ read-basis s t
-unfolding read-basis read-problem
-read-basis-front s t N hs ht =
-    ap (λ x. next x (λ b q. next (basis-reader b (take N t) (front 1)) (λ P q. got (b, P) q))) (sound-problem .looks s (front 0) N (omega arith))
-    ∙ next-cong (read-problem s) _ _
-    (λ b q e. ap (λ x. next x (λ P q. got (b, P) q)) (sound-basis b (problem-valid s e) .looks t (front 1) N (omega arith)))
+    (both-front answer-reader claim-of sound-answer s t read-limit (omega (arith, longest-problem-is)) (omega (arith, longest-answer-is)))
 
 -- They change no evidence, and no answer of its making.
 pub evidence-limit : (s t lent : List ℕ) → make-evidence (take read-limit s) (take read-limit t) lent ≡ make-evidence s t lent
 unfolding read-limit
 evidence-limit s t lent =
     evidence-of-reading (take read-limit s) (take read-limit t) s t lent
-    (read-basis-front s t read-limit (omega (arith, longest-problem-is)) (omega (arith, longest-basis-is)))
+    (both-front basis-reader basis-for sound-basis s t read-limit (omega (arith, longest-problem-is)) (omega (arith, longest-basis-is)))

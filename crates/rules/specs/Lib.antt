@@ -24,6 +24,7 @@ pub mod ReaderLaws
 pub mod ByteNumbers
 pub mod FieldTests
 pub mod Soundness
+pub mod BothFiles
 pub mod Ranges
 pub mod RefusalPlaces
 pub mod Packing

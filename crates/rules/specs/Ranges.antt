@@ -1,14 +1,14 @@
 -- What the readers accept is within document 01's sizes and ranges.
 --   problem-valid, answer-valid, basis-valid, claim-valid, read-basis-valid
 --   claim-got, basis-got     of two files that are read, each is
-use mathlib.Core.Path.{_≡_, sym, ap, _∙_}
+use mathlib.Core.Path.{_≡_}
 use mathlib.Core.List.{List}
 use Prim.Native.Nat.{ℕ}
 use Rattle.rules.specs.Reader.{Place, got, front}
 use Rattle.rules.specs.Claim.{Problem, Answer, Claim}
-use Rattle.rules.specs.Files.{answer-reader, basis-reader, read-problem, read-claim, read-basis}
+use Rattle.rules.specs.Files.{answer-reader, basis-reader, read-problem, claim-of, read-claim, basis-for, read-basis}
 use Rattle.rules.specs.Valid.{ValidProblem, ValidBasis, ValidAnswer, Valid}
-use Rattle.rules.specs.ReaderLaws.{next-next-got}
+use Rattle.rules.specs.BothFiles.{both-parts}
 use Rattle.rules.specs.Soundness.{sound-problem, sound-answer, sound-basis}
 
 -- A problem that is read is valid.
@@ -28,37 +28,25 @@ basis-valid b valid t p h = sound-basis b valid .gives t p h .0
 -- Of a claim that is read, the problem is read and then the answer, …
 pub claim-got : (s t : List ℕ) (c : Claim) (q : Place) → read-claim s t ≡ got c q
     → (p : Place) × (read-problem s ≡ got (c .problem) p) × (answer-reader (c .problem) t (front 1) ≡ got (c .answer) q)
-unfolding read-claim
-claim-got s t c q h = parts (next-next-got (read-problem s) (λ b. answer-reader b t (front 1)) (λ b a. record { problem = b; answer = a }) h)
-  where
-    parts : (b : Problem) × (p : Place) × (a : Answer) × (read-problem s ≡ got b p) × (answer-reader b t (front 1) ≡ got a q)
-        × (_≡_ {A = Claim} (record { problem = b; answer = a }) c)
-        → (p : Place) × (read-problem s ≡ got (c .problem) p) × (answer-reader (c .problem) t (front 1) ≡ got (c .answer) q)
-    parts (b, p, a, e, f, k) =
-        (p, e ∙ ap (λ c. got (c .problem) p) k, ap (λ c. answer-reader (c .problem) t (front 1)) (sym k) ∙ f ∙ ap (λ c. got (c .answer) q) k)
+claim-got s t c q =
+    both-parts answer-reader claim-of s t (λ c. (p : Place) × (read-problem s ≡ got (c .problem) p) × (answer-reader (c .problem) t (front 1) ≡ got (c .answer) q))
+    (λ b p a e f. (p, e, f))
 
 -- … and of a problem and a basis that are read, each is.
 pub basis-got : (s t : List ℕ) (c : Problem × List (List (List ℕ))) (q : Place) → read-basis s t ≡ got c q
     → (p : Place) × (read-problem s ≡ got (c .0) p) × (basis-reader (c .0) t (front 1) ≡ got (c .1) q)
-unfolding read-basis
-basis-got s t c q h = parts (next-next-got (read-problem s) (λ b. basis-reader b t (front 1)) (λ b P. (b, P)) h)
-  where
-    parts : (b : Problem) × (p : Place) × (P : List (List (List ℕ))) × (read-problem s ≡ got b p) × (basis-reader b t (front 1) ≡ got P q)
-        × (_≡_ {A = Problem × List (List (List ℕ))} (b, P) c)
-        → (p : Place) × (read-problem s ≡ got (c .0) p) × (basis-reader (c .0) t (front 1) ≡ got (c .1) q)
-    parts (b, p, P, e, f, k) = (p, e ∙ ap (λ c. got (c .0) p) k, ap (λ c. basis-reader (c .0) t (front 1)) (sym k) ∙ f ∙ ap (λ c. got (c .1) q) k)
+basis-got s t c q =
+    both-parts basis-reader basis-for s t (λ c. (p : Place) × (read-problem s ≡ got (c .0) p) × (basis-reader (c .0) t (front 1) ≡ got (c .1) q)) (λ b p P e f. (p, e, f))
 
 -- A claim that is read is valid.
 pub claim-valid : (s t : List ℕ) {c : Claim} {q : Place} → read-claim s t ≡ got c q → Valid c
-claim-valid s t {c} {q} h =
-    let (p, e, f) = claim-got s t c q h in
-    let valid = problem-valid s e in
-    record { valid-problem = valid; valid-answer = answer-valid (c .problem) valid t (front 1) f }
+claim-valid s t =
+    both-parts answer-reader claim-of s t Valid
+    (λ b p a e f. record { valid-problem = problem-valid s e; valid-answer = answer-valid b (problem-valid s e) t (front 1) f })
 
 -- A problem and a basis that are read are valid.
 pub read-basis-valid : (s t : List ℕ) {c : Problem × List (List (List ℕ))} {q : Place} → read-basis s t ≡ got c q
     → ValidProblem (c .0) × ValidBasis (c .0) (c .1)
-read-basis-valid s t {c} {q} h =
-    let (p, e, f) = basis-got s t c q h in
-    let valid = problem-valid s e in
-    (valid, basis-valid (c .0) valid t (front 1) f)
+read-basis-valid s t =
+    both-parts basis-reader basis-for s t (λ c. ValidProblem (c .0) × ValidBasis (c .0) (c .1))
+    (λ b p P e f. (problem-valid s e, basis-valid b (problem-valid s e) t (front 1) f))

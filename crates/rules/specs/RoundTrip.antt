@@ -20,13 +20,14 @@ use Rattle.rules.specs.Claim.{Problem, Answer, Claim}
 use Rattle.rules.specs.Reader.{Place, got, Reader, next, _>>=_, give, number-at, field, mark, unless, inside, each, end, front}
 use Rattle.rules.specs.Sizes.{largest-prime, most-rows, most-order, most-shift, most-length}
 use Rattle.rules.specs.Files.{PR, OR, SH, FC, PE, CE, problem-reader, coefficient-test, entries-reader, answer-reader, basis-reader, read-problem}
-use Rattle.rules.specs.Files.{read-claim, read-basis, allowed-prime, one-to, residue, due, two's-complement, shift-in-size}
+use Rattle.rules.specs.Files.{claim-of, read-claim, read-basis, allowed-prime, one-to, residue, due, two's-complement, shift-in-size}
 use Rattle.rules.specs.Valid.{ValidProblem, ValidBasis, ValidAnswer, Valid}
 use Rattle.rules.specs.Matrices.{order, at}
 use Rattle.rules.specs.Writer.{bytes, write-each, write-all, unsigned, write-PR, write-OR, write-SH, write-FC, write-PE, write-CE, write-problem}
 use Rattle.rules.specs.Writer.{write-basis, write-answer}
 use Rattle.rules.specs.ReaderLaws.{moved, opening, closed, field-got, end-passed, end-got, next-got, Ends}
 use Rattle.rules.specs.Soundness.{problem-ends, basis-ends, answer-ends}
+use Rattle.rules.specs.BothFiles.{both-read}
 use Rattle.rules.specs.Ranges.{claim-got, basis-got}
 use Rattle.rules.specs.FieldTests.{unless-iff, allowed-prime-iff, one-to-iff, coefficient-iff}
 use Rattle.rules.specs.ByteNumbers.{AllBytes, number-at-below, number-at-bytes, bytes-number-at, length-bytes, two's-complement-unsigned}
@@ -248,14 +249,10 @@ read-written-basis b v P w = whole (reads-basis b v P w) 1
 
 -- A valid claim that is written is read as that claim.
 pub read-written-claim : (c : Claim) → Valid c → (q : Place) × (read-claim (write-problem (c .problem)) (write-answer (c .answer)) ≡ got c q)
-unfolding read-claim next
 read-written-claim c v =
     let (p, e) = read-written-problem (c .problem) (v .valid-problem) in
-    let (q, f) = read-written-answer (c .problem) (v .valid-problem) (c .answer) (v .valid-answer) in (
-      q,
-      ap (λ x. next x (λ b q. next (answer-reader b (write-answer (c .answer)) (front 1)) (λ a q. got (record { problem = b; answer = a }) q))) e
-          ∙ ap (λ x. next x (λ a q. got (record { problem = c .problem; answer = a }) q)) f,
-    )
+    let (q, f) = read-written-answer (c .problem) (v .valid-problem) (c .answer) (v .valid-answer) in
+    (q, both-read answer-reader claim-of (write-problem (c .problem)) (write-answer (c .answer)) e f)
 
 -- WHAT IS READ IS WRITTEN
 

@@ -12,7 +12,7 @@ use Rattle.algebra.specs.Degree.{coefficient}
 use Rattle.rules.specs.Sizes.{largest-prime, most-rows, most-order, most-shift, most-length}
 use Rattle.rules.specs.Reader.{next, number-at, field, each, end}
 use Rattle.rules.specs.Files.{no-divisor, is-prime, two's-complement, PR, OR, SH, FC, problem-reader, coefficient-test, PE, CE, entries-reader}
-use Rattle.rules.specs.Files.{answer-reader, basis-reader, read-problem, read-claim, read-basis}
+use Rattle.rules.specs.Files.{answer-reader, basis-reader, read-problem, read-both}
 use Rattle.rules.specs.Writer.{bytes, write-each, unsigned, write-PR, write-OR, write-SH, write-FC, write-PE, write-CE, write-basis}
 use Rattle.rules.specs.Matrices.{product}
 use Rattle.rules.specs.Conditions.{some-below, degree, largest, row-degree, reduced, sum-below, max-below, determinant-bound, count-nonzero}
@@ -28,7 +28,7 @@ use Rattle.rules.specs.Print.{digits-within, line-of}
 unfoldable pub run-verdict : List ℕ → List ℕ → Numbers
 unfolding sign sum skip red convolve constant cons beside vmul mmul det coefficient largest-prime most-rows most-order most-shift
     most-length next number-at field each end no-divisor is-prime two's-complement PR OR SH FC problem-reader coefficient-test PE CE
-    entries-reader answer-reader basis-reader read-problem read-claim read-basis bytes write-each unsigned write-PR write-OR write-SH write-FC
+    entries-reader answer-reader basis-reader read-problem read-both bytes write-each unsigned write-PR write-OR write-SH write-FC
     write-PE write-CE write-basis product some-below degree largest row-degree reduced sum-below max-below determinant-bound count-nonzero
     monomial-determinant degree-sum low-fault order-fault first-below first-place some-constants combined-to-zero rank-below write-problem
     write-answer numbers verdict judge-claim by-product by-rank

@@ -1,5 +1,6 @@
 use borrow.Author.Needs.{needs}
 use borrow.Author.Tests.{not-true, not-false}
+use mathlib.Core.Bool.{false}
 use mathlib.Core.Logic.{⊎-elim}
 use mathlib.Core.Path.{sym, ap}
 use Prim.Native.Nat.{_≤_, zero-le}
@@ -10,7 +11,9 @@ use Rattle.rules.specs.Sizes.{most-rows}
 use Rattle.rules.specs.Evidence.{Made}
 use Rattle.rules.specs.WriterLaws.{rectangle-most}
 use Rattle.writer.specs.Appended.{appended-within}
-use Rattle.board.specs.EvidenceSteps.{BothRead, both-read, problem-unread, read-sizes, answer-unread, both-factors, both-ordered, both-sizes, room-lacks, evidence-put}
+use Rattle.board.specs.Readings.{On, Answered, problem-read, sizes-few, answer-read}
+use Rattle.board.specs.Filled.{struct-orders}
+use Rattle.board.specs.EvidenceSteps.{evidence-off, evidence-answer-off, both-factors, room-lacks, evidence-put}
 use Rattle.board.proofs.evidence_files.Statement.{statement}
 use Rattle.board.proofs.evidence_files.Tie as tie
 use Rattle.evidence.proofs.put_evidence.Reads as put-evidence-reads
@@ -25,32 +28,32 @@ returns : tie.Need-returns
 returns c =
     let a = c .before .before .before .before .before .before .args in
     let b = c .before .before .read-problem in
-    let e = problem-unread (now (a .problem)) (now (a .answer)) (now (a .buffer)) (b .result) (b .ensures) (not-true (b .result .ok) (c .before .if1 .taken)) in
+    let e = evidence-off (now (a .problem)) (now (a .answer)) (now (a .buffer)) (b .ensures) (not-true (b .result .ok) (c .before .if1 .taken)) in
     (sym (ap (λ (x : Made). x .answer) e), sym (ap (λ (x : Made). x .buffer) e))
 
-read-answer-requires : tie.Need-read-answer-requires
-read-answer-requires c κs =
-    let a = c .before .before .before .before .before .args in
+-- Where the problem is not refused, it is read.
+read : (c : tie.Else1) → On (now (c .before .before .before .before .before .args .problem)) (c .before .read-problem .result)
+read c =
     let b = c .before .read-problem in
-    read-sizes (now (a .problem)) (now (a .answer)) (now (a .buffer)) (b .result) (b .ensures) (not-false (b .result .ok) (c .if1 .left))
+    problem-read (now (c .before .before .before .before .before .args .problem)) (b .ensures) (not-false (b .result .ok) (c .if1 .left))
+
+read-answer-requires : tie.Need-read-answer-requires
+read-answer-requires c κs = sizes-few (read c)
 
 returns-2 : tie.Need-returns-2
 returns-2 c =
     let a = c .before .before .before .before .before .before .before .before .args in
-    let b = c .before .before .before .before .read-problem in
     let x = c .before .before .read-answer in
-    let e = answer-unread (now (a .problem)) (now (a .answer)) (now (a .buffer)) (b .result) (b .ensures) (not-false (b .result .ok) (c .before .before .before .if1 .left)) (x .result) (x .ensures)
+    let e = evidence-answer-off (now (a .problem)) (now (a .answer)) (now (a .buffer)) (read (c .before .before .before)) (x .ensures)
     (not-true (x .result .ok) (c .before .if2 .taken)) in
     (sym (ap (λ (x : Made). x .answer) e), sym (ap (λ (x : Made). x .buffer) e))
 
--- Where neither is refused, both files are read.
-both : (c : tie.Else2) → BothRead (now (c .before .before .before .before .before .before .before .args .problem)) (now (c .before .before .before .before .before .before .before .args .answer)) (c .before .before .before .read-problem .result) (c .before .read-answer .result)
-both c =
+-- Where neither is refused, both are read.
+answered : (c : tie.Else2) → Answered (read (c .before .before) .problem) false (now (c .before .before .before .before .before .before .before .args .answer)) (c .before .read-answer .result)
+answered c =
     let a = c .before .before .before .before .before .before .before .args in
-    let b = c .before .before .before .read-problem in
     let x = c .before .read-answer in
-    both-read (now (a .problem)) (now (a .answer)) (now (a .buffer)) (b .result) (b .ensures) (not-false (b .result .ok) (c .before .before .if1 .left)) (x .result) (x .ensures)
-    (not-false (x .result .ok) (c .if2 .left))
+    answer-read (read (c .before .before)) false (now (a .answer)) (x .ensures) (not-false (x .result .ok) (c .if2 .left))
 
 slice-aggregate-put-evidence : tie.Need-slice-aggregate-put-evidence
 slice-aggregate-put-evidence c = search needs
@@ -59,13 +62,11 @@ put-evidence-requires : tie.Need-put-evidence-requires
 unfolding most-rows
 put-evidence-requires c κs =
     let d = c .before .before .before .before .before .before .before in
-    let a = d .before .before .before .before .before .before .before .args in
     let b = d .before .before .before .read-problem .result in
-    let x = d .before .read-answer .result in
-    let sizes : (b .m ≤ most-rows) × (b .n ≤ most-rows) = both-sizes (now (a .problem)) (now (a .answer)) (now (a .buffer)) b x (both d) in (
-      both-factors (now (a .problem)) (now (a .answer)) (now (a .buffer)) b x (both d),
+    let sizes : (b .m ≤ most-rows) × (b .n ≤ most-rows) = sizes-few (read (d .before .before)) in (
+      both-factors (read (d .before .before)) (answered d),
       (
-        both-ordered (now (a .problem)) (now (a .answer)) (now (a .buffer)) b x (both d),
+        struct-orders (read (d .before .before) .held) (read (d .before .before) .valid),
         (sizes, omega (arith, rectangle-most (sizes .0) (sizes .1))),
       ),
     )
@@ -104,7 +105,7 @@ returns-3 c =
     let a = d .before .before .before .before .before .before .before .args in
     ⊎-elim
     (λ w.
-    let e = room-lacks (now (a .problem)) (now (a .answer)) (now (a .buffer)) (d .before .before .before .read-problem .result) (d .before .read-answer .result) (both d) _ (put .last .0) (put .result) (put .ensures) (front .last .0) (c .before .before .before .before .before .before .if3 .count) (front .result) (front .ensures)
+    let e = room-lacks (read (d .before .before)) (answered d) (now (a .buffer)) _ (put .last .0) (put .result) (put .ensures) (front .last .0) (c .before .before .before .before .before .before .if3 .count) (front .result) (front .ensures)
     (omega arith) (omega arith) in
     (sym (ap (λ (x : Made). x .answer) e), sym (ap (λ (x : Made). x .buffer) e)))
     (λ w. absurd (omega arith))
@@ -122,7 +123,7 @@ returns-4 c =
     ⊎-elim
     (λ w. absurd (omega arith))
     (λ w.
-    let e = evidence-put (now (a .problem)) (now (a .answer)) (now (a .buffer)) (d .before .before .before .read-problem .result) (d .before .read-answer .result) (both d) _ (put .last .0) (put .result) (put .ensures) (front .last .0) (c .before .before .before .before .before .before .if3 .count) (front .result) (front .ensures)
+    let e = evidence-put (read (d .before .before)) (answered d) (now (a .buffer)) _ (put .last .0) (put .result) (put .ensures) (front .last .0) (c .before .before .before .before .before .before .if3 .count) (front .result) (front .ensures)
     (omega arith) (omega arith) in
     (sym (ap (λ (x : Made). x .answer) e), sym (ap (λ (x : Made). x .buffer) e)))
     (c .before .before .before .before .before .before .if3 .came)
