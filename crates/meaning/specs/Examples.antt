@@ -24,16 +24,14 @@ use Rattle.rules.specs.Matrices.{order, at, polynomial}
 use Rattle.rules.specs.Conditions.{reduced, sum-below}
 use Rattle.rules.specs.Verdict.{passed, judge-claim}
 use Rattle.rules.specs.Run.{run-verdict}
+use Rattle.rules.specs.Cases.{one-by-one, two-by-one}
 use Rattle.meaning.specs.Plain.{times, row-times-column, row-P, column-F, IsMultiple, VanishesBelowOrders, Plain}
 use Rattle.meaning.specs.Bridge.{red-row-times-column}
 use Rattle.meaning.specs.Meaning.{pass-iff-plain}
 
 -- "p = 7, m = 2, n = 1, order 2, F rows 1 and 1 + X; P rows (6 + 6X, 1) and (6X, X), C = (0, 1)", shifts 0 and 0.
 abbrev pub two-rows : Claim
-two-rows = record {
-  problem = record { p = 7; m = 2; n = 1; orders = 2 ∷ []; shifts = pos 0 ∷ pos 0 ∷ []; F = ((1 ∷ 0 ∷ []) ∷ (1 ∷ 1 ∷ []) ∷ []) ∷ [] };
-  answer = record { P = ((6 ∷ 6 ∷ []) ∷ (1 ∷ []) ∷ []) ∷ ((0 ∷ 6 ∷ []) ∷ (0 ∷ 1 ∷ []) ∷ []) ∷ []; C = (0 ∷ []) ∷ (1 ∷ []) ∷ [] };
-}
+two-rows = two-by-one (pos 0) (pos 0) 0 1
 
 -- The three sentences about numbers, by computation.
 two-rows-reduced : reduced (two-rows .problem) (two-rows .answer .P) ≡ true
@@ -97,10 +95,7 @@ two-rows-plain = record {
 
 -- "P = 4 + X, F = 0, C = 0" with p = 5, m = n = 1, order 1, shift 0.
 abbrev pub four-plus-X : Claim
-four-plus-X = record {
-  problem = record { p = 5; m = 1; n = 1; orders = 1 ∷ []; shifts = pos 0 ∷ []; F = ((0 ∷ []) ∷ []) ∷ [] };
-  answer = record { P = ((4 ∷ 1 ∷ []) ∷ []) ∷ []; C = (0 ∷ []) ∷ [] };
-}
+four-plus-X = one-by-one 5 1 (pos 0) (4 ∷ 1 ∷ []) (0 ∷ []) 0
 
 -- The polynomial 1, as a row.
 abbrev one : List (List ℕ)

@@ -6,23 +6,21 @@
 --   parts-not-empty                 a part that is not empty, for each code that has one
 use mathlib.Core.Path.{_≡_, refl, sym, ap, _∙_}
 use mathlib.Core.List.{List, [], _∷_, _++_, map}
-use Prim.Native.Nat.{ℕ, _<_}
+use Prim.Native.Nat.{ℕ, suc, _+_, _*_, _<_}
 use lib.IntN.{pos}
 use lib.ListN.{length, getD, take, replicate, List·getD-map}
+use Rattle.rules.specs.Sizes.{most-order}
 use Rattle.rules.specs.Writer.{write-problem, write-answer}
 use Rattle.rules.specs.Verdict.{four, numbers, verdict}
 use Rattle.rules.specs.Evidence.{table, make-evidence}
 use Rattle.rules.specs.EvidenceLaws.{getD-table}
 use Rattle.rules.specs.Part.{pointed-at, part-bytes}
 use Rattle.rules.specs.Run.{run-verdict, run-part, run-evidence}
-use Rattle.rules.specs.Cases.{disk-problem, disk-answer}
+use Rattle.rules.specs.Cases.{one-by-one, disk-problem, disk-answer}
 
--- One row and one column, shift 0: p, the order, F, P and C.
-abbrev one-by-one : (p d : ℕ) → List ℕ → List ℕ → ℕ → List ℕ × List ℕ
-one-by-one p d F P C = (
-  write-problem (record { p = p; m = 1; n = 1; orders = d ∷ []; shifts = pos 0 ∷ []; F = (F ∷ []) ∷ [] }),
-  write-answer (record { P = (P ∷ []) ∷ []; C = (C ∷ []) ∷ [] }),
-)
+-- One row and one column, shift 0: p, the order, P, F and C.
+abbrev files : (p d : ℕ) → List ℕ → List ℕ → ℕ → List ℕ × List ℕ
+files p d P F C = let c = one-by-one p d (pos 0) P F C in (write-problem (c .problem), write-answer (c .answer))
 
 -- A pair of files for each code from 0 to 13.
 abbrev stand-ins : List (List ℕ × List ℕ)
@@ -33,28 +31,28 @@ stand-ins =
     ∷ (disk-problem, take 57 disk-answer)
     -- an answer where the problem is due
     ∷ (disk-answer, disk-answer)
-    -- an order of 17
-    ∷ one-by-one 5 17 (replicate 17 0) (1 ∷ []) 0
+    -- an order above the largest
+    ∷ files 5 (suc most-order) (1 ∷ []) (replicate (suc most-order) 0) 0
     -- p = 6
-    ∷ one-by-one 6 1 (0 ∷ []) (1 ∷ []) 0
+    ∷ files 6 1 (1 ∷ []) (0 ∷ []) 0
     -- the row number 1 in the first record
     ∷ (disk-problem, 0x50 ∷ 0x45 ∷ 1 ∷ [])
     -- a coefficient of 5 modulo 5
-    ∷ one-by-one 5 1 (0 ∷ []) (5 ∷ 1 ∷ []) 0
+    ∷ files 5 1 (5 ∷ 1 ∷ []) (0 ∷ []) 0
     -- a last coefficient of 0
-    ∷ one-by-one 5 1 (0 ∷ []) (1 ∷ 0 ∷ []) 0
+    ∷ files 5 1 (1 ∷ 0 ∷ []) (0 ∷ []) 0
     -- a byte too many
     ∷ (disk-problem, disk-answer ++ (0 ∷ []))
     -- P = 0
-    ∷ one-by-one 5 1 (0 ∷ []) [] 0
+    ∷ files 5 1 [] (0 ∷ []) 0
     -- P = 4 + X
-    ∷ one-by-one 5 1 (0 ∷ []) (4 ∷ 1 ∷ []) 0
+    ∷ files 5 1 (4 ∷ 1 ∷ []) (0 ∷ []) 0
     -- P = 1 where F = 1
-    ∷ one-by-one 5 1 (1 ∷ []) (1 ∷ []) 0
+    ∷ files 5 1 (1 ∷ []) (1 ∷ []) 0
     -- P = X where F = 1, and C = 0
-    ∷ one-by-one 5 1 (1 ∷ []) (0 ∷ 1 ∷ []) 0
+    ∷ files 5 1 (0 ∷ 1 ∷ []) (1 ∷ []) 0
     -- P = X where F = 0
-    ∷ one-by-one 5 1 (0 ∷ []) (0 ∷ 1 ∷ []) 0
+    ∷ files 5 1 (0 ∷ 1 ∷ []) (0 ∷ []) 0
     ∷ []
 
 -- The pair for the code k.
@@ -78,7 +76,7 @@ unfolding run-verdict
 passes-with-two = refl
 
 -- … and one that passes with Δ = 0.
-pub passes-with-zero : numbers (verdict (one-by-one 5 1 (0 ∷ []) (1 ∷ []) 0 .0) (one-by-one 5 1 (0 ∷ []) (1 ∷ []) 0 .1)) ≡ four 0 0 0 0
+pub passes-with-zero : numbers (verdict (files 5 1 (1 ∷ []) (0 ∷ []) 0 .0) (files 5 1 (1 ∷ []) (0 ∷ []) 0 .1)) ≡ four 0 0 0 0
 unfolding run-verdict
 passes-with-zero = refl
 
@@ -90,6 +88,6 @@ evidence-written = refl
 -- The part pointed at has bytes for each code that has a part: 1 to 8, 11 and 12.
 pub parts-not-empty :
     map (λ k. length (part-bytes (stand-in k .0) (stand-in k .1) (pointed-at (stand-in k .0) (stand-in k .1)))) (1 ∷ 2 ∷ 3 ∷ 4 ∷ 5 ∷ 6 ∷ 7 ∷ 8 ∷ 11 ∷ 12 ∷ [])
-    ≡ 9 ∷ 58 ∷ 78 ∷ 22 ∷ 3 ∷ 19 ∷ 19 ∷ 1 ∷ 7 ∷ 6 ∷ []
+    ≡ 9 ∷ 58 ∷ (10 + 4 * suc most-order) ∷ 22 ∷ 3 ∷ 19 ∷ 19 ∷ 1 ∷ 7 ∷ 6 ∷ []
 unfolding run-part
 parts-not-empty = refl

@@ -1,4 +1,5 @@
 -- Document 01, "Judgements worked by hand": the marked cases, as one list with one proof over it, and those that are not marked.
+--   one-by-one, two-by-one   the claims that they are made of
 --   marked, marked-judged    the marked cases
 --   unmarked, unmarked-judged          the others, with the edges and a refusal of each kind
 --   disk-problem, disk-answer          the files on disk: disk-written, disk-lengths, disk-line, cut-line, disk-evidence-made
@@ -9,6 +10,7 @@ use mathlib.Core.List.{List, [], _∷_, _++_, map}
 use Prim.Native.Nat.{ℕ}
 use lib.IntN.{ℤ, pos, negsuc}
 use lib.ListN.{length, replicate}
+use Rattle.rules.specs.Claim.{Claim}
 use Rattle.rules.specs.Writer.{write-problem, write-answer}
 use Rattle.rules.specs.Verdict.{Numbers, four}
 use Rattle.rules.specs.Print.{digits-within, nofile-line}
@@ -20,21 +22,30 @@ pub record Case : Type 0 where
   pub answer : List ℕ
   pub expected : Numbers
 
--- "p = 5, m = n = 1, order 1, shift 0."
-abbrev small : List ℕ → List ℕ → ℕ → Numbers → Case
-small P F C v = record {
-  problem = write-problem (record { p = 5; m = 1; n = 1; orders = 1 ∷ []; shifts = pos 0 ∷ []; F = (F ∷ []) ∷ [] });
-  answer = write-answer (record { P = (P ∷ []) ∷ []; C = (C ∷ []) ∷ [] });
-  expected = v;
+-- The files of a claim.
+abbrev written : Claim → Numbers → Case
+written c v = record { problem = write-problem (c .problem); answer = write-answer (c .answer); expected = v }
+
+-- One row and one column: p, the order, the shift, P, F and C.
+abbrev pub one-by-one : (p d : ℕ) → ℤ → List ℕ → List ℕ → ℕ → Claim
+one-by-one p d s P F C = record {
+  problem = record { p = p; m = 1; n = 1; orders = d ∷ []; shifts = s ∷ []; F = (F ∷ []) ∷ [] };
+  answer = record { P = (P ∷ []) ∷ []; C = (C ∷ []) ∷ [] };
 }
 
--- "p = 7, m = 2, n = 1, order 2, F rows 1 and 1 + X; P rows (6 + 6X, 1) and (6X, X)"
-abbrev large : ℤ → ℤ → ℕ → ℕ → Numbers → Case
-large s₀ s₁ c₀ c₁ v = record {
-  problem = write-problem (record { p = 7; m = 2; n = 1; orders = 2 ∷ []; shifts = s₀ ∷ s₁ ∷ []; F = ((1 ∷ 0 ∷ []) ∷ (1 ∷ 1 ∷ []) ∷ []) ∷ [] });
-  answer = write-answer (record { P = ((6 ∷ 6 ∷ []) ∷ (1 ∷ []) ∷ []) ∷ ((0 ∷ 6 ∷ []) ∷ (0 ∷ 1 ∷ []) ∷ []) ∷ []; C = (c₀ ∷ []) ∷ (c₁ ∷ []) ∷ [] });
-  expected = v;
+-- "p = 7, m = 2, n = 1, order 2, F rows 1 and 1 + X; P rows (6 + 6X, 1) and (6X, X)": the shifts, and C.
+abbrev pub two-by-one : ℤ → ℤ → ℕ → ℕ → Claim
+two-by-one s₀ s₁ c₀ c₁ = record {
+  problem = record { p = 7; m = 2; n = 1; orders = 2 ∷ []; shifts = s₀ ∷ s₁ ∷ []; F = ((1 ∷ 0 ∷ []) ∷ (1 ∷ 1 ∷ []) ∷ []) ∷ [] };
+  answer = record { P = ((6 ∷ 6 ∷ []) ∷ (1 ∷ []) ∷ []) ∷ ((0 ∷ 6 ∷ []) ∷ (0 ∷ 1 ∷ []) ∷ []) ∷ []; C = (c₀ ∷ []) ∷ (c₁ ∷ []) ∷ [] };
 }
+
+-- "p = 5, m = n = 1, order 1, shift 0."
+abbrev small : List ℕ → List ℕ → ℕ → Numbers → Case
+small P F C = written (one-by-one 5 1 (pos 0) P F C)
+
+abbrev large : ℤ → ℤ → ℕ → ℕ → Numbers → Case
+large s₀ s₁ c₀ c₁ = written (two-by-one s₀ s₁ c₀ c₁)
 
 -- The cases marked (*), in document 01's order.
 abbrev pub marked : List Case
@@ -90,11 +101,7 @@ disk-lengths = refl
 
 -- One row, one column and no coefficient but 1: a problem at the edges of the sizes, with the answer P = 1.
 abbrev edge : ℕ → ℕ → ℤ → Numbers → Case
-edge p d s v = record {
-  problem = write-problem (record { p = p; m = 1; n = 1; orders = d ∷ []; shifts = s ∷ []; F = (replicate d 0 ∷ []) ∷ [] });
-  answer = write-answer (record { P = ((1 ∷ []) ∷ []) ∷ []; C = (0 ∷ []) ∷ [] });
-  expected = v;
-}
+edge p d s = written (one-by-one p d s (1 ∷ []) (replicate d 0) 0)
 
 abbrev on-disk : List ℕ → Numbers → Case
 on-disk t v = record { problem = disk-problem; answer = t; expected = v }
