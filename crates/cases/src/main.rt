@@ -6,6 +6,7 @@
 ghost use mathlib.Core.Path.{_≡_};
 ghost use Prim.Native.Nat.{_+_, _*_, _≤_, _<_};
 ghost use lib.ListN.{length};
+ghost use Rattle.cases.specs.Limits.{longest, most-lent, chunk, most-digits};
 use libc::STDOUT_FILENO;
 use writer::put_text;
 
@@ -53,7 +54,7 @@ fn spell(bytes: &[u8], out: &mut [u8])
 
 // Writes at most CHUNK bytes in hex.
 fn write_chunk(bytes: &[u8])
-    requires { ⌜ length (now bytes) ≤ 2048 ⌝ }
+    requires { ⌜ length (now bytes) ≤ chunk ⌝ }
 {
     let mut text = io::buffer();
     spell(bytes, &mut text);
@@ -73,8 +74,8 @@ fn write_hex(bytes: &[u8]) {
 
 // Puts a space and the decimal digits of `n` at `at` and gives the place after them.
 fn put_spaced(out: &mut [u8], at: usize, n: u64) -> usize
-    requires { ⌜ at + 21 ≤ length (now out) ⌝ }
-    ensures { λ r. ⌜ r ≤ at + 21 ⌝ }
+    requires { ⌜ at + 1 + most-digits ≤ length (now out) ⌝ }
+    ensures { λ r. ⌜ r ≤ at + 1 + most-digits ⌝ }
 {
     let mut digits = [0u8; DIGITS];
     let k = least(io::decimal(n, &mut digits), DIGITS);
@@ -128,14 +129,14 @@ fn write_evidence(problem: &[u8], answer: &[u8], lent: &mut [u8]) {
 
 // The bytes to lend, each 170.
 fn marked() -> [u8; MOST_LENT]
-    ensures { λ r. ⌜ 4096 ≡ length r ⌝ }
+    ensures { λ r. ⌜ length r ≡ most-lent ⌝ }
 {
     [170; MOST_LENT]
 }
 
 // The three lines of a case.
 fn write_case<'a>(problem: &'a [u8], answer: &'a [u8], lent: usize)
-    requires { ⌜ lent ≤ 4096 ⌝ }
+    requires { ⌜ lent ≤ most-lent ⌝ }
 {
     write_verdict(problem, answer);
     write_part(board::pointed_at(problem, answer));
@@ -173,7 +174,7 @@ fn run_files(
     n: usize,
     lent: usize,
 ) -> bool
-    requires { ⌜ (65536 ≤ length (now problem)) × (65536 ≤ length (now answer)) ⌝ }
+    requires { ⌜ (longest ≤ length (now problem)) × (longest ≤ length (now answer)) ⌝ }
 {
     if m > LONGEST {
         return false;
@@ -196,7 +197,7 @@ fn run_files(
 
 // Runs the next case, and answers whether it is whole and allowed.
 fn run_case(fd: i32, problem: &mut [u8], answer: &mut [u8]) -> bool
-    requires { ⌜ (65536 ≤ length (now problem)) × (65536 ≤ length (now answer)) ⌝ }
+    requires { ⌜ (longest ≤ length (now problem)) × (longest ≤ length (now answer)) ⌝ }
 {
     let mut space = [0u8; 12];
     let numbers: &mut [u8] = &mut space;
@@ -211,7 +212,7 @@ fn run_case(fd: i32, problem: &mut [u8], answer: &mut [u8]) -> bool
 
 // Runs the next `count` cases, and answers whether they are all whole and allowed.
 fn run_cases(fd: i32, problem: &mut [u8], answer: &mut [u8], count: usize) -> bool
-    requires { ⌜ (65536 ≤ length (now problem)) × (65536 ≤ length (now answer)) ⌝ }
+    requires { ⌜ (longest ≤ length (now problem)) × (longest ≤ length (now answer)) ⌝ }
 {
     let mut i = 0;
     while i < count {

@@ -7,7 +7,7 @@ use layout::READ_LIMIT;
 use libc::STDOUT_FILENO;
 
 // The first bytes of a file, or that it can't be opened or read.
-pub enum Loaded {
+enum Loaded {
     Bytes(usize),
     Missing,
 }

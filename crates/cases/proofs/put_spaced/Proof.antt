@@ -1,4 +1,4 @@
--- `cases::put_spaced` is safe, ends and puts at most 21 bytes: the digits that are handed on are at most 20.
+-- `cases::put_spaced` is safe, ends and puts a space and at most `most-digits` bytes: no more digits are handed on.
 use borrow.Author.Needs.{needs}
 use native.Mathlib.Omega.{arith}
 use lib.ListN.{length-take}

@@ -1,4 +1,4 @@
--- `cases::write_chunk` is safe and ends: two digits for each of at most 2,048 bytes are within the 4,096 bytes of the text.
+-- `cases::write_chunk` is safe and ends: two digits for each of at most `chunk` bytes are within the text.
 use borrow.Author.Needs.{needs}
 use lib.ListN.{length-take}
 use native.Mathlib.Omega.{arith}
