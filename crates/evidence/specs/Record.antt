@@ -11,14 +11,12 @@ use native.Mathlib.Nat.{le-antisymm, mul-le-mul-right}
 use native.Mathlib.Numerals.{add-one}
 use native.Mathlib.Omega.{arith}
 use lib.ListN.{length, getD, length-append}
+use Rattle.rules.specs.Files.{CE-mark}
 use Rattle.rules.specs.Writer.{bytes, write-each, write-all, write-CE}
 use Rattle.rules.specs.Evidence.{table}
 use Rattle.writer.specs.Appended.{Appended, appended-nothing, appended-both}
 use Rattle.rules.specs.ByteNumbers.{length-bytes}
 use Rattle.product.specs.Product.{flat-product}
-
-abbrev pub mark-bytes : List ℕ
-mark-bytes = 0x43 ∷ 0x45 ∷ []
 
 -- The numbers of row i: the coefficients of P·F at the orders.
 unfoldable pub row-numbers : (p : ℕ) → List ℕ → List ℕ → List ℕ → ℕ → ℕ → ℕ → List ℕ
@@ -92,11 +90,11 @@ module _ (p : ℕ) (a f orders : List ℕ) (m n at : ℕ) (before : List ℕ) wh
   }
 
   -- The whole record is the mark and all rows.
-  pub record-done : (first after : List ℕ) (end i : ℕ) → Appended first before 0 at mark-bytes → m ≤ i → RowsPut p a f orders m n at before after end i
+  pub record-done : (first after : List ℕ) (end i : ℕ) → Appended first before 0 at (bytes 2 CE-mark) → m ≤ i → RowsPut p a f orders m n at before after end i
       → Appended first after 0 end (write-CE (flat-evidence p a f orders m n))
   unfolding flat-evidence write-CE
   record-done first after end i y h x =
-      appended-both first before after 0 at end mark-bytes _ y
+      appended-both first before after 0 at end (bytes 2 CE-mark) _ y
       (subst (λ k. Appended before after at end (write-all (write-all (bytes 4)) (table k (row-numbers p a f orders m n)))) (le-antisymm (x .rows) h) (x .put))
 
 -- One row more is still within the record.

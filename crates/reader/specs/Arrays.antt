@@ -13,10 +13,13 @@ use lib.Seq.{getD-set-same, getD-set-other}
 use Rattle.rules.specs.Sizes.{most-rows, most-order, most-length}
 use Rattle.rules.specs.Matrices.{at}
 use Rattle.layout.specs.Flat.{column-place, entry-place, square-place}
-use Rattle.reader.specs.Reach.{All, Any}
 use Rattle.reader.specs.Storing.{pour}
-use Rattle.reader.specs.Poured.{Blocks, poured-length, poured-below, poured-above, poured-at, pour-both, pour-same, Every, every-set, every-pour}
+use Rattle.reader.specs.Poured.{All, Blocks, poured-length, poured-below, poured-above, poured-at, pour-both, pour-same, Every, every-set, every-pour}
 use Rattle.reader.specs.Flat.{filled, put-from, run-into, put-row, block-into, row-fits, list-into, shifts-into, put-column, columns-into, column-size, coefficients, row-into, entries-into, evidence-into, cells, entry-cells}
+
+-- A property that everything has.
+abbrev Any : {A : Type 0} → A → Type 0
+Any a = Unit {0}
 
 any : {A : Type 0} (l : List A) → All Any l
 any [] = tt

@@ -19,8 +19,7 @@ use Rattle.rules.specs.Valid.{ValidProblem, ValidBasis, ValidAnswer}
 use Rattle.layout.specs.Flat.{square-place, cell, column-cell}
 use Rattle.reader.specs.declared.Problem.{Problem as ReadProblem}
 use Rattle.reader.specs.declared.Answer.{Answer as ReadAnswer}
-use Rattle.reader.specs.Reach.{All}
-use Rattle.reader.specs.Poured.{all-of}
+use Rattle.reader.specs.Poured.{All, all-of}
 use Rattle.reader.specs.Arrays.{list-at, shifts-at, columns-at, entries-at, lengths-at, evidence-at, every-column, every-entry, every-length, every-constant}
 use Rattle.reader.specs.Values.{problem-value, answer-value, without-evidence}
 

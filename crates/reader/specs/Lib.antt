@@ -2,7 +2,6 @@ pub mod Head
 pub mod Storing
 pub mod Flat
 pub mod Shifts
-pub mod Reach
 pub mod Extent
 pub mod Records
 pub mod Values

@@ -3,7 +3,7 @@
 --   poured-length, poured-below, poured-above, poured-at      after all of them
 --   pour-both, pour-same     two rooms, two ways to put
 --   Every, every-set, every-pour      what holds at every place
---   all-of                   what holds of each member
+--   All, all-of              what holds of each member
 use mathlib.Core.Path.{_≡_, refl, sym, ap, _∙_}
 use mathlib.Core.List.{List, [], _∷_}
 use Prim.Native.Nat.{ℕ, zero, suc, _+_, _*_, _≤_, _<_}
@@ -11,7 +11,11 @@ use native.Mathlib.Nat.{suc-mul, add-zero, add-suc, suc-add, add-mul}
 use native.Mathlib.Omega.{arith}
 use lib.ListN.{length, getD, set}
 use Rattle.reader.specs.Storing.{pour}
-use Rattle.reader.specs.Reach.{All}
+
+-- Q holds of each member of a list.
+abbrev pub All : {A : Type 0} → (A → Type 0) → List A → Type 0
+All Q [] = Unit {0}
+All Q (a ∷ l) = Q a × All Q l
 
 -- The i-th thing goes into the `width` places from `base` + i × `width` on. `Good` are the things that fit, `d` is the empty one. `part` is what a
 -- thing has at an index k, which stands `pos` k places into its block.

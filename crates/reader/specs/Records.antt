@@ -1,21 +1,26 @@
 -- What the records' code needs of the rules' records.
 --   closing, closed-into     the end of a record
---   numbered, list-numbered  the record's number after its fields
+--   stored-forward           where a reader that stored what it read left the reading
+--   list-numbered            the record's number after a list of fields
 --   refuses, gives           one field, in the code's answer
---   record-refused, record-given, refused-into      a record by its next field
---   field-near               the place after one field
+--   record-refused, record-given, then-refused, then-given, refused-into      a record by its next field
+--   field-number             one field is of one record
 --   sizes-reader             the last two fields of the `PR` record
-use mathlib.Core.Path.{_≡_, refl, sym, ap, subst, fun-ext, _∙_}
+--   count-reader, sound-counts, length-field, PE-after-mark      the fields of the `PE` record before its coefficients
+--   sound-row                a row of numbers below p
+--   beside                   numbers stored beside their count
+use mathlib.Core.Path.{_≡_, refl, sym, ap, fun-ext, _∙_}
 use mathlib.Core.Bool.{Bool, cond}
 use mathlib.Core.List.{List}
-use Prim.Native.Nat.{ℕ, _+_, _*_, _≤_, _<_}
+use Prim.Native.Nat.{ℕ, _*_, _≤_, _<_}
 use native.Mathlib.Omega.{arith}
 use lib.Dec.{leb}
 use lib.ListN.{length}
 use Rattle.rules.specs.Sizes.{most-rows, most-length}
 use Rattle.rules.specs.Reader.{Place, Refusal, Result, refused, got, Reader, next, _>>=_, give, field, mark, unless, each}
-use Rattle.rules.specs.Files.{PE, one-to, residue, due, coefficient-test}
-use Rattle.rules.specs.ReaderLaws.{opening, closed}
+use Rattle.rules.specs.Files.{PE-mark, PE, one-to, residue, due, coefficient-test}
+use Rattle.rules.specs.ReaderLaws.{opening, closed, field-got, Forward, Sound, Listed, sound-weaken, sound-next, sound-each}
+use Rattle.rules.specs.Soundness.{sound-due, sound-count, sound-residue}
 use Rattle.place.specs.declared.Place.{Place as Spot}
 use Rattle.place.specs.declared.Stop.{Stop}
 use Rattle.place.specs.declared.Field.{Field}
@@ -25,9 +30,7 @@ use Rattle.place.specs.declared.Going.the-variants.{On, Off}
 use Rattle.place.specs.Places.{place, refusal, taken, going, closed-of, Numbered}
 use Rattle.cursor.specs.Tests.{between}
 use Rattle.cursor.specs.Fields.{between-high}
-use Rattle.reader.specs.Extent.{length-moves}
 use Rattle.reader.specs.Storing.{into, into-got}
-use Rattle.reader.specs.Reach.{Near, Moved, Moves, All, moves-bind, moves-each, moves-wider, moved-got, Any, any-field}
 
 -- The end of a record: the next one has the next number.
 abbrev pub closing : {A : Type 0} → Result A → Result A
@@ -48,19 +51,15 @@ pub closed-into : {A B : Type 0} (b : B) (h : A → B) (g : Going) (m : Result A
 closed-into b h g m e gave = ap (λ (x : Going). going x b) e ∙ going-closed b g ∙ ap closing gave ∙ sym (into-closing h m)
 
 -- Where a reader that stored what it read left the reading.
-pub stored-near : {A B : Type 0} (Q : A → Type 0) (h : A → B) {b : B} {k w : ℕ} {p q : Place} (m : Result A) → into h m ≡ got b q → Moved Q k w p m → Near k w p q
-stored-near Q h {k = k} {w = w} {p = p} m e near = subst (λ r. Moved Q k w p r) (into-got h m e .1) near .1
-
--- How many records have passed.
-pub numbered : {A B : Type 0} (Q : A → Type 0) (b : B) (h : A → B) (k w : ℕ) (p : Place) (g : Going) (m : Result A) → going g b ≡ into h m → Moved Q k w p m
-    → p .number + k < 65_535 → Numbered g
-numbered Q b h k w p (On q) m gave near le = omega (arith, stored-near Q h m (sym gave) near .counted)
-numbered Q b h k w p (Off x) m gave near le = tt
+pub stored-forward : {A B : Type 0} {k c : ℕ} {Q : A → Type 0} {m : Reader A} → Sound k c Q m → (h : A → B) (s : List ℕ) (p : Place) {b : B} {q : Place}
+    → into h (m s p) ≡ got b q → Forward k c s p q
+stored-forward {m = m} sound h s p e = sound .gives s p (into-got h (m s p) e .1) .1
 
 -- No record passes in a list of fields.
-pub list-numbered : {A B : Type 0} {Q : A → Type 0} {w : ℕ} (b : B) (h : List A → B) (n : ℕ) (f : ℕ → Reader A) (s : List ℕ) (p : Place) (g : Going)
-    → going g b ≡ into h (each n f s p) → ((i : ℕ) → Moves Q 0 w (f i)) → p .number < 65_535 → Numbered g
-list-numbered {w = w} b h n f s p g gave moves le = numbered _ b h (n * 0) (n * w) p g (each n f s p) gave (moves-each n f moves .from s p) (omega arith)
+pub list-numbered : {A B : Type 0} {Q : ℕ → A → Type 0} {k : ℕ} (d : A) (b : B) (h : List A → B) (n : ℕ) (f : ℕ → Reader A) (s : List ℕ) (p : Place) (g : Going)
+    → going g b ≡ into h (each n f s p) → ((i : ℕ) → Sound k 0 (Q i) (f i)) → p .number < 65_535 → Numbered g
+list-numbered d b h n f s p (On q) gave sound le = omega (arith, stored-forward (sound-each d n f sound) h s p (sym gave) .number)
+list-numbered d b h n f s p (Off x) gave sound le = tt
 
 -- A field that is refused, or given, in the code's answer.
 module _ {r : Field} {m : Result ℕ} (gave : taken r ≡ m) where
@@ -95,26 +94,28 @@ pub refused-into : {A B : Type 0} (h : A → B) {m : Result A} {x : Refusal} →
 unfolding into
 refused-into h e = sym (ap (into h) e)
 
--- The place after one field.
-pub field-near : (k : ℕ) (test : ℕ → ℕ) (s : List ℕ) (p : Place) {r : Field} {v : ℕ} {q : Spot} → taken r ≡ field k test s p → r ≡ Value v q → Near 0 k p (place q)
-field-near k test s p gave e = moved-got (any-field k test) s p (sym gave ∙ ap taken e) .1
+-- The place after one field is of the same record.
+pub field-number : (k : ℕ) (test : ℕ → ℕ) (s : List ℕ) (p : Place) {r : Field} {v : ℕ} {q : Spot} → taken r ≡ field k test s p → r ≡ Value v q
+    → q .number ≡ p .number
+field-number k test s p {v = v} {q = q} gave e =
+    let (h, n, f, there) = field-got k test s p v (place q) .0 (sym gave ∙ ap taken e) in ap (λ (p : Place). p .number) there
 
 -- The fields m and n of the `PR` record.
 unfoldable pub sizes-reader : ℕ → Reader (ℕ × ℕ × ℕ)
 sizes-reader p = λ s q. closing ((field 1 (unless 3 (one-to most-rows)) >>= λ m. field 1 (unless 3 (one-to most-rows)) >>= λ n. give (p, m, n)) s q)
 
 -- No record passes in a row of coefficients.
-pub block-row-moves : (p n : ℕ) → Moves Any 0 (n * 4) (each n (λ k. field 4 (residue p)))
-block-row-moves p n = moves-wider 0 (n * 4) (moves-each n _ (λ k. any-field 4 _)) (λ l h. tt) (omega arith) (omega arith)
+pub sound-row : (p n : ℕ) → Sound (n * 4) 0 (Listed n 0 (λ k c. c < p)) (each n (λ k. field 4 (residue p)))
+sound-row p n = sound-weaken (omega arith) (omega arith) (λ l h. h) (sound-each 0 n (λ k. field 4 (residue p)) (λ k. sound-residue p))
 
 -- The numbers of the `PE` record: row, column, count.
 unfoldable pub count-reader : ℕ → ℕ → Reader ℕ
 count-reader i j = field 1 (due i) >>= λ a. field 1 (due j) >>= λ b. field 1 (unless 3 (λ L. leb L most-length))
 
 -- The count is a size: no more coefficients than an entry may have.
-pub count-moves : (i j : ℕ) → Moves (λ L. L ≤ most-length) 0 3 (count-reader i j)
+pub sound-counts : (i j : ℕ) → Sound 3 0 (λ L. L ≤ most-length) (count-reader i j)
 unfolding count-reader
-count-moves i j = moves-bind (any-field 1 _) (λ a qa. moves-bind (any-field 1 _) (λ b qb. length-moves))
+sound-counts i j = sound-next (sound-due i) (λ a ha. sound-next (sound-due j) (λ b hb. sound-count))
 
 -- The size test of a count, in the code's tests.
 pub length-field : (most : ℕ) → field 1 (unless 3 (between 0 most)) ≡ field 1 (unless 3 (λ L. leb L most))
@@ -126,7 +127,7 @@ next-assoc (refused x) f g = refl
 next-assoc (got a q) f g = refl
 
 -- The `PE` record after its mark: its numbers, then as many coefficients as they say.
-pub PE-after-mark : (p i j : ℕ) (s : List ℕ) (at : Place) {v : ℕ} {q : Place} → mark 0x50 0x45 s (opening at) ≡ got v q
+pub PE-after-mark : (p i j : ℕ) (s : List ℕ) (at : Place) {v : ℕ} {q : Place} → mark PE-mark s (opening at) ≡ got v q
     → PE p i j s at ≡ closing (next (count-reader i j s q) (λ L q′. each L (λ k. field 4 (coefficient-test p L k)) s q′))
 unfolding PE count-reader
 PE-after-mark p i j s at {v} {q} e =
@@ -150,12 +151,12 @@ module _ {B C : Type 0} (c : ℕ → C) (n : ℕ) where
   going-beside b (On q) = refl
   going-beside b (Off x) = refl
 
-  into-beside : {A : Type 0} (Q : A → Type 0) (h : List A → B) (k w : ℕ) (p : Place) (m : Result (List A)) → Moved (λ l. All Q l × (length l ≡ n)) k w p m
+  into-beside : {A : Type 0} (h : List A → B) (m : Result (List A)) → ((l : List A) (q : Place) → m ≡ got l q → length l ≡ n)
       → into {B = C × B} (λ (y : B). (c n, y)) (into h m) ≡ into {B = C × B} (λ l. (c (length l), h l)) m
   unfolding into
-  into-beside Q h k w p (refused x) sized = refl
-  into-beside Q h k w p (got l q) sized = ap {B = Result (C × B)} (λ (j : ℕ). got (c j, h l) q) (sym (sized .0 .1))
+  into-beside h (refused x) sized = refl
+  into-beside h (got l q) sized = ap {B = Result (C × B)} (λ (j : ℕ). got (c j, h l) q) (sym (sized l q refl))
 
-  pub beside : {A : Type 0} (b : B) (h : List A → B) (Q : A → Type 0) (k w : ℕ) (p : Place) (g : Going) (m : Result (List A)) → going g b ≡ into h m
-      → Moved (λ l. All Q l × (length l ≡ n)) k w p m → going {A = C × B} g (c n, b) ≡ into {B = C × B} (λ l. (c (length l), h l)) m
-  beside b h Q k w p g m gave sized = going-beside b g ∙ ap (into {B = C × B} (λ (y : B). (c n, y))) gave ∙ into-beside Q h k w p m sized
+  pub beside : {A : Type 0} (b : B) (h : List A → B) (g : Going) (m : Result (List A)) → going g b ≡ into h m
+      → ((l : List A) (q : Place) → m ≡ got l q → length l ≡ n) → going {A = C × B} g (c n, b) ≡ into {B = C × B} (λ l. (c (length l), h l)) m
+  beside b h g m gave sized = going-beside b g ∙ ap (into {B = C × B} (λ (y : B). (c n, y))) gave ∙ into-beside h m sized

@@ -17,7 +17,6 @@ use Rattle.place.specs.declared.Field.{Field}
 use Rattle.place.specs.declared.Field.the-variants.{Value, Off}
 use Rattle.place.specs.Places.{place, refusal, taken}
 use Rattle.reader.specs.Storing.{into}
-use Rattle.reader.specs.Reach.{Moves, Any, any-field, moves-bind, moves-give}
 
 abbrev pub shift-reader : Reader ℤ
 shift-reader = field 2 (unless 3 shift-in-size) >>= λ v. give (two's-complement v)
@@ -36,6 +35,3 @@ module _ {B : Type 0} (g : ℤ → B) (s : List ℕ) (p : Place) {r : Field} (ga
 pub two-bytes : (test : ℕ → ℕ) (s : List ℕ) (p : Place) {r : Field} {v : ℕ} {q : Spot} → AllBytes s → taken r ≡ field 2 test s p → r ≡ Value v q → v < 65_536
 two-bytes test s p {v = v} bytes gave e =
     omega (arith, field-got 2 test s p v _ .0 (sym gave ∙ ap taken e) .1, number-at-below 2 s (p .at) bytes)
-
-pub shift-moves : Moves Any 0 2 shift-reader
-shift-moves = moves-bind (any-field 2 _) (λ v qv. moves-give (two's-complement v) tt)

@@ -1,12 +1,13 @@
 -- Document 01, "The two files": the layout, a reader for each record.
 --   allowed-prime, one-to, due, residue, shift-in-size, coefficient-test      the fields' own tests
+--   PR-mark, OR-mark, SH-mark, FC-mark, PE-mark, CE-mark       the records' marks, as numbers
 --   PR, OR, SH, FC, PE, CE   the records
 --   problem-reader, answer-reader, basis-reader      the files: a problem, an answer, an answer that ends after the last `PE`
 --   read-problem, read-both  the problem's file, and both files, one after the other
 --   read-claim, read-basis   a problem and an answer to it, and a problem and an answer without evidence
 use mathlib.Core.Bool.{Bool, true, false, cond, not}
 use mathlib.Core.List.{List}
-use Prim.Native.Nat.{ℕ, zero, suc, _-_, _%_}
+use Prim.Native.Nat.{ℕ, zero, suc, _+_, _-_, _*_, _%_}
 use lib.Dec.{leb, ltb, eqb}
 use lib.IntN.{ℤ, pos, natAbs, _-ℤ_}
 use lib.ListN.{getD}
@@ -47,10 +48,34 @@ two's-complement v = cond (ltb v 32_768) (pos v) (pos v -ℤ pos 65_536)
 abbrev pub shift-in-size : ℕ → Bool
 shift-in-size v = leb (natAbs (two's-complement v)) most-shift
 
+-- The marks: "`PR` (50 52)", …
+abbrev pub PR-mark : ℕ
+PR-mark = 0x50 + 256 * 0x52
+
+-- … "`OR` (4F 52)", …
+abbrev pub OR-mark : ℕ
+OR-mark = 0x4F + 256 * 0x52
+
+-- … "`SH` (53 48)", …
+abbrev pub SH-mark : ℕ
+SH-mark = 0x53 + 256 * 0x48
+
+-- … "`FC` (46 43)", …
+abbrev pub FC-mark : ℕ
+FC-mark = 0x46 + 256 * 0x43
+
+-- … "`PE` (50 45)", …
+abbrev pub PE-mark : ℕ
+PE-mark = 0x50 + 256 * 0x45
+
+-- … "`CE` (43 45)".
+abbrev pub CE-mark : ℕ
+CE-mark = 0x43 + 256 * 0x45
+
 -- "`PR` (50 52): p in four bytes, m in one, n in one."
 unfoldable pub PR : Reader (ℕ × ℕ × ℕ)
 PR = inside do
-  mark 0x50 0x52
+  mark PR-mark
   p ← field 4 (unless 4 allowed-prime)
   m ← field 1 (unless 3 (one-to most-rows))
   n ← field 1 (unless 3 (one-to most-rows))
@@ -59,13 +84,13 @@ PR = inside do
 -- "`OR` (4F 52): n orders, one byte each."
 unfoldable pub OR : ℕ → Reader (List ℕ)
 OR n = inside do
-  mark 0x4F 0x52
+  mark OR-mark
   each n (λ j. field 1 (unless 3 (one-to most-order)))
 
 -- "`SH` (53 48): m shifts, two bytes each, two's complement."
 unfoldable pub SH : ℕ → Reader (List ℤ)
 SH m = inside do
-  mark 0x53 0x48
+  mark SH-mark
   each m λ i. do
     v ← field 2 (unless 3 shift-in-size)
     give (two's-complement v)
@@ -73,7 +98,7 @@ SH m = inside do
 -- "`FC` (46 43), n records: column number j from 0 in one byte; then for each row exactly d_j coefficients of four bytes, lowest power first."
 unfoldable pub FC : (p m d j : ℕ) → Reader (List (List ℕ))
 FC p m d j = inside do
-  mark 0x46 0x43
+  mark FC-mark
   field 1 (due j)
   each m (λ i. each d (λ k. field 4 (residue p)))
 
@@ -94,7 +119,7 @@ coefficient-test p L k v = elim (ltb v p) [ true ↦ elim (eqb (suc k) L) [ true
 -- lowest power first. The last is not zero; L = 0 is the zero entry."
 unfoldable pub PE : (p i j : ℕ) → Reader (List ℕ)
 PE p i j = inside do
-  mark 0x50 0x45
+  mark PE-mark
   field 1 (due i)
   field 1 (due j)
   L ← field 1 (unless 3 (λ L. leb L most-length))
@@ -103,7 +128,7 @@ PE p i j = inside do
 -- "`CE` (43 45): m × n numbers of four bytes, row by row."
 unfoldable pub CE : (p m n : ℕ) → Reader (List (List ℕ))
 CE p m n = inside do
-  mark 0x43 0x45
+  mark CE-mark
   each m (λ i. each n (λ j. field 4 (residue p)))
 
 -- The entries of P, "row by row".

@@ -1,5 +1,6 @@
--- A file that is read is as long as what was read from it is when written, whatever numbers stand in the file.
---   Moves m W                what the reader m gives stands in W to the number of bytes that it moved over
+-- A file that is read is as long as what was read from it is when written, whatever numbers stand in the file. `Sound` bounds how far a
+-- reader moves, whatever it gives; here the number of bytes is exact, and it depends on what is given. So a record of its own says it.
+--   Spans m W                what the reader m gives stands in W to the number of bytes that it moved over
 --   problem-length, basis-length, answer-length       the length of each of the three files
 use mathlib.Core.Path.{_≡_, refl, sym, ap, subst, _∙_}
 use mathlib.Core.List.{List, [], _∷_}
@@ -17,25 +18,25 @@ use Rattle.rules.specs.Soundness.{problem-ends, basis-ends, answer-ends}
 use Rattle.rules.specs.ByteNumbers.{length-bytes}
 
 -- What the reader m gives stands in W to the number k of the bytes that it moved over.
-record Moves {A : Type 0} (m : Reader A) (W : A → ℕ → Type 0) : Type 0 where
+record Spans {A : Type 0} (m : Reader A) (W : A → ℕ → Type 0) : Type 0 where
   over : (s : List ℕ) (p : Place) {a : A} {q : Place} → m s p ≡ got a q → (k : ℕ) × (q .at ≡ p .at + k) × W a k
 
-moves-weaken : {A : Type 0} {m : Reader A} {W R : A → ℕ → Type 0} → ((a : A) (k : ℕ) → W a k → R a k) → Moves m W → Moves m R
-moves-weaken f h = record { over = λ s p x. let (k, e, w) = h .over s p x in (k, e, f _ k w) }
+spans-weaken : {A : Type 0} {m : Reader A} {W R : A → ℕ → Type 0} → ((a : A) (k : ℕ) → W a k → R a k) → Spans m W → Spans m R
+spans-weaken f h = record { over = λ s p x. let (k, e, w) = h .over s p x in (k, e, f _ k w) }
 
-moves-give : {A : Type 0} {R : A → ℕ → Type 0} (a : A) → R a 0 → Moves (give a) R
-moves-give {A} {R} a v =
+spans-give : {A : Type 0} {R : A → ℕ → Type 0} (a : A) → R a 0 → Spans (give a) R
+spans-give {A} {R} a v =
     record { over = λ s p {a = a′} {q} x. let e : a ≡ a′ = cc in let f : p ≡ q = cc in (0, ap (λ p. p .at) (sym f) ∙ sym (add-zero (p .at)), subst (λ a. R a 0) e v) }
 
-moves-end : {A : Type 0} {R : A → ℕ → Type 0} (a : A) → R a 0 → Moves (end a) R
-moves-end {A} {R} a v = record {
+spans-end : {A : Type 0} {R : A → ℕ → Type 0} (a : A) → R a 0 → Spans (end a) R
+spans-end {A} {R} a v = record {
   over = λ s p {a = a′} {q} x.
       let (h, e, f) = end-got a s p a′ q .0 x in (0, ap (λ (p : Place). p .at) f ∙ sym (add-zero (p .at)), subst (λ a. R a 0) (sym e) v);
 }
 
-moves-next : {A B : Type 0} {m : Reader A} {f : A → Reader B} {W : A → ℕ → Type 0} {R : B → ℕ → Type 0} → Moves m W
-    → ((a : A) (k : ℕ) → W a k → Moves (f a) (λ b l. R b (k + l))) → Moves (m >>= f) R
-moves-next {m} {f} hm hf = record {
+spans-next : {A B : Type 0} {m : Reader A} {f : A → Reader B} {W : A → ℕ → Type 0} {R : B → ℕ → Type 0} → Spans m W
+    → ((a : A) (k : ℕ) → W a k → Spans (f a) (λ b l. R b (k + l))) → Spans (m >>= f) R
+spans-next {m} {f} hm hf = record {
   over = λ s p {q} x.
       let (a, p′, e, h) = next-got (m s p) (λ a q. f a s q) x in
       let (k, there, w) = hm .over s p e in
@@ -43,8 +44,8 @@ moves-next {m} {f} hm hf = record {
       (k + l, omega arith, r);
 }
 
-moves-inside : {A : Type 0} {m : Reader A} {W : A → ℕ → Type 0} → Moves m W → Moves (inside m) W
-moves-inside {A} {m} {W} hm = record {
+spans-inside : {A : Type 0} {m : Reader A} {W : A → ℕ → Type 0} → Spans m W → Spans (inside m) W
+spans-inside {A} {m} {W} hm = record {
   over = λ s p {a = a′} {q} x.
       let (a, p′, e, h) = next-got (m s (opening p)) (λ a q. got a (closed q)) x in
       let (k, there, w) = hm .over s (opening p) e in
@@ -54,108 +55,108 @@ moves-inside {A} {m} {W} hm = record {
 }
 
 -- A field moves over its own size.
-moves-field : (k : ℕ) (test : ℕ → ℕ) → Moves (field k test) (λ v n. n ≡ k)
-moves-field k test =
+spans-field : (k : ℕ) (test : ℕ → ℕ) → Spans (field k test) (λ v n. n ≡ k)
+spans-field k test =
     record { over = λ s p {a = v} {q} x. let (long, n, e, there) = field-got k test s p v q .0 x in (k, ap (λ (p : Place). p .at) there, refl) }
 
-moves-number : (k : ℕ) (test : ℕ → ℕ) → Moves (field k test) (λ v n. n ≡ length (bytes k v))
-moves-number k test = moves-weaken (λ v n e. e ∙ sym (length-bytes k v)) (moves-field k test)
+spans-number : (k : ℕ) (test : ℕ → ℕ) → Spans (field k test) (λ v n. n ≡ length (bytes k v))
+spans-number k test = spans-weaken (λ v n e. e ∙ sym (length-bytes k v)) (spans-field k test)
 
-moves-each : {A : Type 0} (w : ℕ → A → List ℕ) (i₀ n : ℕ) (f : ℕ → Reader A) → ((i : ℕ) → Moves (f i) (λ a k. k ≡ length (w (i₀ + i) a)))
-    → Moves (each n f) (λ c k. (k ≡ length (write-each w i₀ c)) × (length c ≡ n))
+spans-each : {A : Type 0} (w : ℕ → A → List ℕ) (i₀ n : ℕ) (f : ℕ → Reader A) → ((i : ℕ) → Spans (f i) (λ a k. k ≡ length (w (i₀ + i) a)))
+    → Spans (each n f) (λ c k. (k ≡ length (write-each w i₀ c)) × (length c ≡ n))
 unfolding each write-each
-moves-each w i₀ zero f h = moves-give [] (refl, refl)
-moves-each w i₀ (suc n) f h =
-    moves-next (h 0) (λ a k e.
-    moves-next (moves-each w (suc i₀) n (λ i. f (suc i)) (λ i. moves-weaken (λ a k e. e ∙ ap (λ n. length (w n a)) (omega arith)) (h (suc i)))) (λ c l (e′, size).
-    moves-give (a ∷ c) (omega (arith, e, e′, ap (λ i. length (w i a)) (add-zero i₀), length-append (w i₀ a) (write-each w (suc i₀) c)), ap suc size)))
+spans-each w i₀ zero f h = spans-give [] (refl, refl)
+spans-each w i₀ (suc n) f h =
+    spans-next (h 0) (λ a k e.
+    spans-next (spans-each w (suc i₀) n (λ i. f (suc i)) (λ i. spans-weaken (λ a k e. e ∙ ap (λ n. length (w n a)) (omega arith)) (h (suc i)))) (λ c l (e′, size).
+    spans-give (a ∷ c) (omega (arith, e, e′, ap (λ i. length (w i a)) (add-zero i₀), length-append (w i₀ a) (write-each w (suc i₀) c)), ap suc size)))
 
-moves-list : {A : Type 0} (w : ℕ → A → List ℕ) (n : ℕ) (f : ℕ → Reader A) → ((i : ℕ) → Moves (f i) (λ a k. k ≡ length (w i a)))
-    → Moves (each n f) (λ c k. k ≡ length (write-each w 0 c))
-moves-list w n f h = moves-weaken (λ c k h. h .0) (moves-each w 0 n f (λ i. moves-weaken (λ a k e. e ∙ ap (λ n. length (w n a)) (omega arith)) (h i)))
+spans-list : {A : Type 0} (w : ℕ → A → List ℕ) (n : ℕ) (f : ℕ → Reader A) → ((i : ℕ) → Spans (f i) (λ a k. k ≡ length (w i a)))
+    → Spans (each n f) (λ c k. k ≡ length (write-each w 0 c))
+spans-list w n f h = spans-weaken (λ c k h. h .0) (spans-each w 0 n f (λ i. spans-weaken (λ a k e. e ∙ ap (λ n. length (w n a)) (omega arith)) (h i)))
 
-moves-rows : (m d : ℕ) (test : ℕ → ℕ) → Moves (each m (λ i. each d (λ k. field 4 test))) (λ rows k. k ≡ length (write-all (write-all (bytes 4)) rows))
-moves-rows m d test = moves-list (λ i. write-all (bytes 4)) m _ (λ i. moves-list (λ k. bytes 4) d _ (λ k. moves-number 4 test))
+spans-rows : (m d : ℕ) (test : ℕ → ℕ) → Spans (each m (λ i. each d (λ k. field 4 test))) (λ rows k. k ≡ length (write-all (write-all (bytes 4)) rows))
+spans-rows m d test = spans-list (λ i. write-all (bytes 4)) m _ (λ i. spans-list (λ k. bytes 4) d _ (λ k. spans-number 4 test))
 
-moves-PR : Moves PR (λ t k. k ≡ length (write-PR (t .0) (t .1) (t .2)))
+spans-PR : Spans PR (λ t k. k ≡ length (write-PR (t .0) (t .1) (t .2)))
 unfolding PR write-PR bytes
-moves-PR = moves-inside (
-    moves-next (moves-field 2 _) (λ v k₀ e₀.
-    moves-next (moves-field 4 _) (λ p k₁ e₁.
-    moves-next (moves-field 1 _) (λ m k₂ e₂.
-    moves-next (moves-field 1 _) (λ n k₃ e₃.
-    moves-give (p, m, n) (omega arith))))))
+spans-PR = spans-inside (
+    spans-next (spans-field 2 _) (λ v k₀ e₀.
+    spans-next (spans-field 4 _) (λ p k₁ e₁.
+    spans-next (spans-field 1 _) (λ m k₂ e₂.
+    spans-next (spans-field 1 _) (λ n k₃ e₃.
+    spans-give (p, m, n) (omega arith))))))
 
-moves-OR : (n : ℕ) → Moves (OR n) (λ orders k. k ≡ length (write-OR orders))
-unfolding OR write-OR
-moves-OR n = moves-inside (moves-next (moves-field 2 _) (λ v k₀ e₀.
-    moves-weaken (λ orders k e. omega arith) (moves-list (λ j. bytes 1) n _ (λ j. moves-number 1 _))))
+spans-OR : (n : ℕ) → Spans (OR n) (λ orders k. k ≡ length (write-OR orders))
+unfolding OR write-OR bytes
+spans-OR n = spans-inside (spans-next (spans-field 2 _) (λ v k₀ e₀.
+    spans-weaken (λ orders k e. omega arith) (spans-list (λ j. bytes 1) n _ (λ j. spans-number 1 _))))
 
-moves-SH : (m : ℕ) → Moves (SH m) (λ shifts k. k ≡ length (write-SH shifts))
-unfolding SH write-SH
-moves-SH m = moves-inside (moves-next (moves-field 2 _) (λ v k₀ e₀.
-    moves-weaken (λ shifts k e. omega arith) (moves-list (λ i z. bytes 2 (unsigned z)) m _ (λ i.
-    moves-next (moves-field 2 _) (λ v k e. moves-give (two's-complement v) (add-zero k ∙ e ∙ sym (length-bytes 2 (unsigned (two's-complement v)))))))))
+spans-SH : (m : ℕ) → Spans (SH m) (λ shifts k. k ≡ length (write-SH shifts))
+unfolding SH write-SH bytes
+spans-SH m = spans-inside (spans-next (spans-field 2 _) (λ v k₀ e₀.
+    spans-weaken (λ shifts k e. omega arith) (spans-list (λ i z. bytes 2 (unsigned z)) m _ (λ i.
+    spans-next (spans-field 2 _) (λ v k e. spans-give (two's-complement v) (add-zero k ∙ e ∙ sym (length-bytes 2 (unsigned (two's-complement v)))))))))
 
-moves-FC : (p m d j : ℕ) → Moves (FC p m d j) (λ column k. k ≡ length (write-FC j column))
+spans-FC : (p m d j : ℕ) → Spans (FC p m d j) (λ column k. k ≡ length (write-FC j column))
 unfolding FC write-FC bytes
-moves-FC p m d j = moves-inside (
-    moves-next (moves-field 2 _) (λ v k₀ e₀.
-    moves-next (moves-field 1 _) (λ w k₁ e₁.
-    moves-weaken (λ column k e. omega arith) (moves-rows m d _))))
+spans-FC p m d j = spans-inside (
+    spans-next (spans-field 2 _) (λ v k₀ e₀.
+    spans-next (spans-field 1 _) (λ w k₁ e₁.
+    spans-weaken (λ column k e. omega arith) (spans-rows m d _))))
 
-moves-CE : (p m n : ℕ) → Moves (CE p m n) (λ C k. k ≡ length (write-CE C))
-unfolding CE write-CE
-moves-CE p m n = moves-inside (moves-next (moves-field 2 _) (λ v k₀ e₀. moves-weaken (λ C k e. omega arith) (moves-rows m n _)))
+spans-CE : (p m n : ℕ) → Spans (CE p m n) (λ C k. k ≡ length (write-CE C))
+unfolding CE write-CE bytes
+spans-CE p m n = spans-inside (spans-next (spans-field 2 _) (λ v k₀ e₀. spans-weaken (λ C k e. omega arith) (spans-rows m n _)))
 
-moves-PE : (p i j : ℕ) → Moves (PE p i j) (λ entry k. k ≡ length (write-PE i j entry))
+spans-PE : (p i j : ℕ) → Spans (PE p i j) (λ entry k. k ≡ length (write-PE i j entry))
 unfolding PE write-PE bytes
-moves-PE p i j = moves-inside (
-    moves-next (moves-field 2 _) (λ v k₀ e₀.
-    moves-next (moves-field 1 _) (λ w k₁ e₁.
-    moves-next (moves-field 1 _) (λ x k₂ e₂.
-    moves-next (moves-field 1 _) (λ L k₃ e₃.
-    moves-weaken (λ entry k e. omega arith) (moves-list (λ k. bytes 4) L _ (λ k. moves-number 4 _)))))))
+spans-PE p i j = spans-inside (
+    spans-next (spans-field 2 _) (λ v k₀ e₀.
+    spans-next (spans-field 1 _) (λ w k₁ e₁.
+    spans-next (spans-field 1 _) (λ x k₂ e₂.
+    spans-next (spans-field 1 _) (λ L k₃ e₃.
+    spans-weaken (λ entry k e. omega arith) (spans-list (λ k. bytes 4) L _ (λ k. spans-number 4 _)))))))
 
-moves-problem : Moves problem-reader (λ b k. k ≡ length (write-problem b))
+spans-problem : Spans problem-reader (λ b k. k ≡ length (write-problem b))
 unfolding problem-reader write-problem
-moves-problem =
-    moves-next moves-PR (λ t k₀ e₀.
-    moves-next (moves-OR (t .2)) (λ orders k₁ e₁.
-    moves-next (moves-SH (t .1)) (λ shifts k₂ e₂.
-    moves-next (moves-list write-FC (t .2) _ (λ j. moves-FC (t .0) (t .1) (getD orders j 0) j)) (λ F k₃ e₃.
-    moves-end (record { p = t .0; m = t .1; n = t .2; orders = orders; shifts = shifts; F = F }) (rw (length-append, length-append, length-append) (omega arith))))))
+spans-problem =
+    spans-next spans-PR (λ t k₀ e₀.
+    spans-next (spans-OR (t .2)) (λ orders k₁ e₁.
+    spans-next (spans-SH (t .1)) (λ shifts k₂ e₂.
+    spans-next (spans-list write-FC (t .2) _ (λ j. spans-FC (t .0) (t .1) (getD orders j 0) j)) (λ F k₃ e₃.
+    spans-end (record { p = t .0; m = t .1; n = t .2; orders = orders; shifts = shifts; F = F }) (rw (length-append, length-append, length-append) (omega arith))))))
 
-moves-entries : (p m : ℕ) → Moves (entries-reader p m) (λ P k. k ≡ length (write-basis P))
+spans-entries : (p m : ℕ) → Spans (entries-reader p m) (λ P k. k ≡ length (write-basis P))
 unfolding entries-reader write-basis
-moves-entries p m =
-    moves-list (λ i. write-each (λ j entry. write-PE i j entry) 0) m _ (λ i. moves-list (λ j entry. write-PE i j entry) m _ (λ j. moves-PE p i j))
+spans-entries p m =
+    spans-list (λ i. write-each (λ j entry. write-PE i j entry) 0) m _ (λ i. spans-list (λ j entry. write-PE i j entry) m _ (λ j. spans-PE p i j))
 
-moves-basis : (b : Problem) → Moves (basis-reader b) (λ P k. k ≡ length (write-basis P))
+spans-basis : (b : Problem) → Spans (basis-reader b) (λ P k. k ≡ length (write-basis P))
 unfolding basis-reader
-moves-basis b = moves-next (moves-entries (b .p) (b .m)) (λ P k e. moves-end P (add-zero k ∙ e))
+spans-basis b = spans-next (spans-entries (b .p) (b .m)) (λ P k e. spans-end P (add-zero k ∙ e))
 
-moves-answer : (b : Problem) → Moves (answer-reader b) (λ a k. k ≡ length (write-answer a))
+spans-answer : (b : Problem) → Spans (answer-reader b) (λ a k. k ≡ length (write-answer a))
 unfolding answer-reader write-answer
-moves-answer b =
-    moves-next (moves-entries (b .p) (b .m)) (λ P k₀ e₀.
-    moves-next (moves-CE (b .p) (b .m) (b .n)) (λ C k₁ e₁.
-    moves-end (record { P = P; C = C }) (omega (arith, e₀, e₁, length-append (write-basis P) (write-CE C)))))
+spans-answer b =
+    spans-next (spans-entries (b .p) (b .m)) (λ P k₀ e₀.
+    spans-next (spans-CE (b .p) (b .m) (b .n)) (λ C k₁ e₁.
+    spans-end (record { P = P; C = C }) (omega (arith, e₀, e₁, length-append (write-basis P) (write-CE C)))))
 
 -- A file that is read to its end.
-wholly : {A : Type 0} {m : Reader A} (w : A → List ℕ) → Moves m (λ a k. k ≡ length (w a)) → Ends m → (s : List ℕ) (f : ℕ) {a : A} {q : Place}
+wholly : {A : Type 0} {m : Reader A} (w : A → List ℕ) → Spans m (λ a k. k ≡ length (w a)) → Ends m → (s : List ℕ) (f : ℕ) {a : A} {q : Place}
     → m s (front f) ≡ got a q → length s ≡ length (w a)
 wholly w h ends s f x = let (k, e, same) = h .over s (front f) x in omega (arith, ends .at-end s (front f) x)
 
 -- A file that is read as a problem is as long as that problem when written, …
 pub problem-length : (s : List ℕ) {b : Problem} {q : Place} → read-problem s ≡ got b q → length s ≡ length (write-problem b)
 unfolding read-problem
-problem-length s h = wholly write-problem moves-problem problem-ends s 0 h
+problem-length s h = wholly write-problem spans-problem problem-ends s 0 h
 
 -- … one that is read as a basis, as that basis, …
 pub basis-length : (b : Problem) (t : List ℕ) {P : List (List (List ℕ))} {q : Place} → basis-reader b t (front 1) ≡ got P q → length t ≡ length (write-basis P)
-basis-length b t h = wholly write-basis (moves-basis b) (basis-ends b) t 1 h
+basis-length b t h = wholly write-basis (spans-basis b) (basis-ends b) t 1 h
 
 -- … and one that is read as an answer, as that answer.
 pub answer-length : (b : Problem) (t : List ℕ) {a : Answer} {q : Place} → answer-reader b t (front 1) ≡ got a q → length t ≡ length (write-answer a)
-answer-length b t h = wholly write-answer (moves-answer b) (answer-ends b) t 1 h
+answer-length b t h = wholly write-answer (spans-answer b) (answer-ends b) t 1 h

@@ -69,8 +69,8 @@ abbrev pub unless : ℕ → (ℕ → Bool) → ℕ → ℕ
 unless code holds v = cond (holds v) 0 code
 
 -- "Each record starts with a mark of two bytes." Refusal 2: "the mark isn't the one due".
-abbrev pub mark : ℕ → ℕ → Reader ℕ
-mark a b = field 2 (unless 2 (λ v. eqb v (a + 256 * b)))
+abbrev pub mark : ℕ → Reader ℕ
+mark due = field 2 (unless 2 (λ v. eqb v due))
 
 -- A record: it starts where the reading stands, and the next one has the next number.
 abbrev pub inside : {A : Type 0} → Reader A → Reader A

@@ -148,7 +148,7 @@ module _ {A : Type 0} (a : A) (s : List ℕ) (p : Place) where
 
 -- RECORDS
 
--- The place opening a record that ends where the reading stands.
+-- The place after a record that ends where the reading stands.
 abbrev pub closed : Place → Place
 closed q = record { file = q .file; number = q .number + 1; start = q .start; at = q .at }
 
@@ -199,7 +199,7 @@ refusing-weaken : {k c l d : ℕ} {s : List ℕ} {p : Place} {r : Refusal} → k
 refusing-weaken h e z = record { code-least = z .code-least; code-most = z .code-most; place = forward-weaken h e (z .place) }
 
 -- The reader m moves over at most k bytes and c ends of records, gives what is in Q, refuses by codes 1 to 8 at a place that it may move
--- to, and looks at no byte opening those and the next one.
+-- to, and looks at no byte after those and the next one.
 pub record Sound {A : Type 0} (k c : ℕ) (Q : A → Type 0) (m : Reader A) : Type 0 where
   pub gives : (s : List ℕ) (p : Place) {a : A} {q : Place} → m s p ≡ got a q → Q a × Forward k c s p q
   pub refuses : (s : List ℕ) (p : Place) {r : Refusal} → m s p ≡ refused r → Refusing k c s p r

@@ -8,7 +8,7 @@ use mathlib.Core.Path.{_≡_, refl, sym, ap, ap₂, subst, _∙_}
 use mathlib.Core.Logic.{_≢_}
 use mathlib.Core.Bool.{Bool}
 use mathlib.Core.List.{List, [], _∷_, _++_, append-assoc, append-nil}
-use Prim.Native.Nat.{ℕ, zero, suc, pred, _+_, _*_, _^_, _≤_, _<_, zero-le}
+use Prim.Native.Nat.{ℕ, zero, suc, pred, _+_, _^_, _≤_, _<_, zero-le}
 use native.Mathlib.Nat.{mod-eq-of-lt, add-zero}
 use native.Mathlib.Omega.{arith}
 use lib.Dec.{T, leb, ltb, eqb, le→leb, lt→ltb, eqb-refl, eqb→eq}
@@ -19,6 +19,7 @@ use Rattle.algebra.specs.Prime.{Prime}
 use Rattle.rules.specs.Claim.{Problem, Answer, Claim}
 use Rattle.rules.specs.Reader.{Place, got, Reader, next, _>>=_, give, number-at, field, mark, unless, inside, each, end, front}
 use Rattle.rules.specs.Sizes.{largest-prime, most-rows, most-order, most-shift, most-length}
+use Rattle.rules.specs.Files.{PR-mark, OR-mark, SH-mark, FC-mark, PE-mark, CE-mark}
 use Rattle.rules.specs.Files.{PR, OR, SH, FC, PE, CE, problem-reader, coefficient-test, entries-reader, answer-reader, basis-reader, read-problem}
 use Rattle.rules.specs.Files.{claim-of, read-claim, read-basis, allowed-prime, one-to, residue, due, two's-complement, shift-in-size}
 use Rattle.rules.specs.Valid.{ValidProblem, ValidBasis, ValidAnswer, Valid}
@@ -101,13 +102,11 @@ reads-field x k test v small e = record {
 reads-unless : (x : List ℕ) (k code : ℕ) (holds : ℕ → Bool) (v : ℕ) → 0 < code → v < 256 ^ k → T (holds v) → Reads x (field k (unless code holds)) v (bytes k v)
 reads-unless x k code holds v some small t = reads-field x k (unless code holds) v small (unless-iff code (holds v) some .1 t)
 
-bytes-mark : (a b : ℕ) → a < 256 → b < 256 → bytes 2 (a + 256 * b) ≡ a ∷ b ∷ []
-unfolding bytes
-bytes-mark a b ha hb = ap₂ (λ y z. y ∷ z ∷ []) (omega arith) (omega arith)
+reads-exactly : (x : List ℕ) (k code v : ℕ) → 0 < code → v < 256 ^ k → Reads x (field k (unless code (λ w. eqb w v))) v (bytes k v)
+reads-exactly x k code v some small = reads-unless x k code (λ w. eqb w v) v some small (eqb-refl v)
 
-reads-mark : (x : List ℕ) (a b : ℕ) → a < 256 → b < 256 → Reads x (mark a b) (a + 256 * b) (a ∷ b ∷ [])
-reads-mark x a b ha hb =
-    reads-as (bytes-mark a b ha hb) (reads-unless x 2 2 (λ v. eqb v (a + 256 * b)) (a + 256 * b) (omega arith) (omega arith) (eqb-refl (a + 256 * b)))
+reads-mark : (x : List ℕ) (due : ℕ) → due < 65_536 → Reads x (mark due) due (bytes 2 due)
+reads-mark x due small = reads-exactly x 2 2 due (omega arith) small
 
 reads-each : {A : Type 0} (d : A) (x : List ℕ) (f : ℕ → Reader A) (w : ℕ → A → List ℕ) (i₀ : ℕ) (l : List A)
     → ((i : ℕ) → i < length l → (x : List ℕ) → Reads x (f i) (getD l i d) (w (i₀ + i) (getD l i d))) → Reads x (each (length l) f) l (write-each w i₀ l)
@@ -128,7 +127,7 @@ reads-list d x n f w l size h =
 reads-PR : (x : List ℕ) (p m n : ℕ) → Prime p → p ≤ largest-prime → 1 ≤ m → m ≤ most-rows → 1 ≤ n → n ≤ most-rows → Reads x PR (p, m, n) (write-PR p m n)
 unfolding PR write-PR largest-prime most-rows
 reads-PR x p m n prime size m₁ m₂ n₁ n₂ = reads-as (simp (append-assoc, append-nil)) (reads-inside (
-    reads-next _ (reads-mark _ 0x50 0x52 (omega arith) (omega arith)) (
+    reads-next _ (reads-mark _ PR-mark (omega arith)) (
     reads-next _ (reads-unless _ 4 4 allowed-prime p (omega arith) (omega arith) (allowed-prime-iff p .1 (prime, size))) (
     reads-next _ (reads-unless _ 1 3 (one-to most-rows) m (omega arith) (omega arith) (one-to-iff most-rows m .1 (m₁, m₂))) (
     reads-next _ (reads-unless _ 1 3 (one-to most-rows) n (omega arith) (omega arith) (one-to-iff most-rows n .1 (n₁, n₂))) (
@@ -138,7 +137,7 @@ reads-OR : (x : List ℕ) (n : ℕ) (orders : List ℕ) → length orders ≡ n 
     → Reads x (OR n) orders (write-OR orders)
 unfolding OR write-OR most-order
 reads-OR x n orders size least most = reads-inside (
-    reads-next _ (reads-mark _ 0x4F 0x52 (omega arith) (omega arith)) (
+    reads-next _ (reads-mark _ OR-mark (omega arith)) (
     reads-list 0 x n _ (λ j. bytes 1) orders size
     (λ j h x. reads-unless x 1 3 (one-to most-order) (getD orders j 0) (omega arith) (omega (arith, most j))
     (one-to-iff most-order (getD orders j 0) .1 (least j h, most j)))))
@@ -147,7 +146,7 @@ reads-SH : (x : List ℕ) (m : ℕ) (shifts : List ℤ) → length shifts ≡ m 
     → Reads x (SH m) shifts (write-SH shifts)
 unfolding SH write-SH
 reads-SH x m shifts size most = reads-inside (
-    reads-next _ (reads-mark _ 0x53 0x48 (omega arith) (omega arith)) (
+    reads-next _ (reads-mark _ SH-mark (omega arith)) (
     reads-list (pos 0) x m _ (λ i z. bytes 2 (unsigned z)) shifts size (λ i h x. one (getD shifts i (pos 0)) (most i) x)))
   where
     one : (z : ℤ) → natAbs z ≤ most-shift → (x : List ℕ)
@@ -169,13 +168,13 @@ reads-rows x p m d rows hp size sizes range =
     reads-unless x 4 6 (λ v. ltb v p) (getD (getD rows i []) k 0) (omega arith) (omega (arith, range i k)) (lt→ltb _ p (range i k))))
 
 reads-due : (x : List ℕ) (i : ℕ) → i < 256 → Reads x (field 1 (due i)) i (bytes 1 i)
-reads-due x i h = reads-unless x 1 5 (λ v. eqb v i) i (omega arith) (omega arith) (eqb-refl i)
+reads-due x i small = reads-exactly x 1 5 i (omega arith) small
 
 reads-FC : (x : List ℕ) (p m d j : ℕ) (column : List (List ℕ)) → p ≤ largest-prime → j < 256 → length column ≡ m
     → ((i : ℕ) → i < m → length (getD column i []) ≡ d) → ((i k : ℕ) → getD (getD column i []) k 0 < p) → Reads x (FC p m d j) column (write-FC j column)
 unfolding FC write-FC
 reads-FC x p m d j column hp hj size sizes range = reads-as (simp append-assoc) (reads-inside (
-    reads-next _ (reads-mark _ 0x46 0x43 (omega arith) (omega arith)) (
+    reads-next _ (reads-mark _ FC-mark (omega arith)) (
     reads-next _ (reads-due _ j hj) (
     reads-rows x p m d column hp size sizes range))))
 
@@ -183,14 +182,14 @@ reads-CE : (x : List ℕ) (p m n : ℕ) (C : List (List ℕ)) → p ≤ largest-
     → ((i j : ℕ) → getD (getD C i []) j 0 < p) → Reads x (CE p m n) C (write-CE C)
 unfolding CE write-CE
 reads-CE x p m n C hp size sizes range = reads-inside (
-    reads-next _ (reads-mark _ 0x43 0x45 (omega arith) (omega arith)) (
+    reads-next _ (reads-mark _ CE-mark (omega arith)) (
     reads-rows x p m n C hp size sizes range))
 
 reads-PE : (x : List ℕ) (p i j : ℕ) (entry : List ℕ) → p ≤ largest-prime → i < 256 → j < 256 → length entry ≤ most-length → ((k : ℕ) → getD entry k 0 < p)
     → (0 < length entry → getD entry (pred (length entry)) 0 ≢ 0) → Reads x (PE p i j) entry (write-PE i j entry)
 unfolding PE write-PE largest-prime most-length
 reads-PE x p i j entry hp hi hj size range last = reads-as (simp append-assoc) (reads-inside (
-    reads-next _ (reads-mark _ 0x50 0x45 (omega arith) (omega arith)) (
+    reads-next _ (reads-mark _ PE-mark (omega arith)) (
     reads-next _ (reads-due _ i hi) (
     reads-next _ (reads-due _ j hj) (
     reads-next _ (reads-unless _ 1 3 (λ L. leb L most-length) (length entry) (omega arith) (omega arith) (le→leb (length entry) most-length size)) (
@@ -322,8 +321,8 @@ writes-exactly k code v some =
     writes-weaken (λ w l (e, small, passed). e ∙ ap (bytes k) (eqb→eq w v (unless-iff code (eqb w v) some .0 passed)))
     (writes-field k (unless code (λ w. eqb w v)))
 
-writes-mark : (a b : ℕ) → a < 256 → b < 256 → Writes (mark a b) (λ w l. l ≡ a ∷ b ∷ [])
-writes-mark a b ha hb = writes-weaken (λ w l e. e ∙ bytes-mark a b ha hb) (writes-exactly 2 2 (a + 256 * b) (omega arith))
+writes-mark : (due : ℕ) → Writes (mark due) (λ w l. l ≡ bytes 2 due)
+writes-mark due = writes-exactly 2 2 due (omega arith)
 
 writes-list : {A : Type 0} (w : ℕ → A → List ℕ) (n : ℕ) (f : ℕ → Reader A) → ((i : ℕ) → Writes (f i) (λ a l. l ≡ w i a))
     → Writes (each n f) (λ c l. l ≡ write-each w 0 c)
@@ -335,7 +334,7 @@ writes-rows p m d = writes-list (λ i. write-all (bytes 4)) m _ (λ i. writes-li
 writes-PR : Writes PR (λ t l. l ≡ write-PR (t .0) (t .1) (t .2))
 unfolding PR write-PR
 writes-PR = writes-inside (
-    writes-next (writes-mark 0x50 0x52 (omega arith) (omega arith)) (λ v l₀ e₀.
+    writes-next (writes-mark PR-mark) (λ v l₀ e₀.
     writes-next (writes-number 4 _) (λ p l₁ e₁.
     writes-next (writes-number 1 _) (λ m l₂ e₂.
     writes-next (writes-number 1 _) (λ n l₃ e₃.
@@ -343,12 +342,12 @@ writes-PR = writes-inside (
 
 writes-OR : (n : ℕ) → Writes (OR n) (λ orders l. l ≡ write-OR orders)
 unfolding OR write-OR
-writes-OR n = writes-inside (writes-next (writes-mark 0x4F 0x52 (omega arith) (omega arith)) (λ v l₀ e₀.
+writes-OR n = writes-inside (writes-next (writes-mark OR-mark) (λ v l₀ e₀.
     writes-weaken (λ orders l e. ap₂ _++_ e₀ e) (writes-list (λ j. bytes 1) n _ (λ j. writes-number 1 _))))
 
 writes-SH : (m : ℕ) → Writes (SH m) (λ shifts l. l ≡ write-SH shifts)
 unfolding SH write-SH
-writes-SH m = writes-inside (writes-next (writes-mark 0x53 0x48 (omega arith) (omega arith)) (λ v l₀ e₀.
+writes-SH m = writes-inside (writes-next (writes-mark SH-mark) (λ v l₀ e₀.
     writes-weaken (λ shifts l e. ap₂ _++_ e₀ e) (writes-list (λ i z. bytes 2 (unsigned z)) m _ (λ i.
     writes-next (writes-field 2 _)
     (λ v l (e, small, passed). writes-give (two's-complement v) (append-nil l ∙ e ∙ ap (bytes 2) (sym (unsigned-two's-complement v small))))))))
@@ -356,20 +355,20 @@ writes-SH m = writes-inside (writes-next (writes-mark 0x53 0x48 (omega arith) (o
 writes-FC : (p m d j : ℕ) → Writes (FC p m d j) (λ column l. l ≡ write-FC j column)
 unfolding FC write-FC
 writes-FC p m d j = writes-inside (
-    writes-next (writes-mark 0x46 0x43 (omega arith) (omega arith)) (λ v l₀ e₀.
+    writes-next (writes-mark FC-mark) (λ v l₀ e₀.
     writes-next (writes-exactly 1 5 j (omega arith)) (λ w l₁ e₁.
     writes-weaken (λ column l e. ap₂ _++_ e₀ (ap₂ _++_ e₁ e) ∙ simp append-assoc) (writes-rows p m d))))
 
 writes-CE : (p m n : ℕ) → Writes (CE p m n) (λ C l. l ≡ write-CE C)
 unfolding CE write-CE
 writes-CE p m n =
-    writes-inside (writes-next (writes-mark 0x43 0x45 (omega arith) (omega arith)) (λ v l₀ e₀.
+    writes-inside (writes-next (writes-mark CE-mark) (λ v l₀ e₀.
     writes-weaken (λ C l e. ap₂ _++_ e₀ e) (writes-rows p m n)))
 
 writes-PE : (p i j : ℕ) → Writes (PE p i j) (λ entry l. l ≡ write-PE i j entry)
 unfolding PE write-PE
 writes-PE p i j = writes-inside (
-    writes-next (writes-mark 0x50 0x45 (omega arith) (omega arith)) (λ v l₀ e₀.
+    writes-next (writes-mark PE-mark) (λ v l₀ e₀.
     writes-next (writes-exactly 1 5 i (omega arith)) (λ w l₁ e₁.
     writes-next (writes-exactly 1 5 j (omega arith)) (λ x l₂ e₂.
     writes-next (writes-number 1 _) (λ L l₃ e₃.

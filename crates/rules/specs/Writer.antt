@@ -7,6 +7,7 @@ use Prim.Native.Nat.{ℕ, zero, suc, _-_, _/_, _%_}
 use lib.IntN.{ℤ, pos, negsuc}
 use lib.ListN.{length}
 use Rattle.rules.specs.Claim.{Problem, Answer}
+use Rattle.rules.specs.Files.{PR-mark, OR-mark, SH-mark, FC-mark, PE-mark, CE-mark}
 
 -- "Numbers are low byte first."
 unfoldable pub bytes : ℕ → ℕ → List ℕ
@@ -29,27 +30,27 @@ unsigned (negsuc v) = 65_535 - v
 
 -- The record `PR`, …
 unfoldable pub write-PR : (p m n : ℕ) → List ℕ
-write-PR p m n = (0x50 ∷ 0x52 ∷ []) ++ bytes 4 p ++ bytes 1 m ++ bytes 1 n
+write-PR p m n = bytes 2 PR-mark ++ bytes 4 p ++ bytes 1 m ++ bytes 1 n
 
 -- … `OR`, …
 unfoldable pub write-OR : List ℕ → List ℕ
-write-OR orders = (0x4F ∷ 0x52 ∷ []) ++ write-all (bytes 1) orders
+write-OR orders = bytes 2 OR-mark ++ write-all (bytes 1) orders
 
 -- … `SH`, …
 unfoldable pub write-SH : List ℤ → List ℕ
-write-SH shifts = (0x53 ∷ 0x48 ∷ []) ++ write-all (λ z. bytes 2 (unsigned z)) shifts
+write-SH shifts = bytes 2 SH-mark ++ write-all (λ z. bytes 2 (unsigned z)) shifts
 
 -- … `FC` of column j, …
 unfoldable pub write-FC : ℕ → List (List ℕ) → List ℕ
-write-FC j column = (0x46 ∷ 0x43 ∷ []) ++ bytes 1 j ++ write-all (write-all (bytes 4)) column
+write-FC j column = bytes 2 FC-mark ++ bytes 1 j ++ write-all (write-all (bytes 4)) column
 
 -- … `PE` of the entry in row i and column j, …
 unfoldable pub write-PE : (i j : ℕ) → List ℕ → List ℕ
-write-PE i j entry = (0x50 ∷ 0x45 ∷ []) ++ bytes 1 i ++ bytes 1 j ++ bytes 1 (length entry) ++ write-all (bytes 4) entry
+write-PE i j entry = bytes 2 PE-mark ++ bytes 1 i ++ bytes 1 j ++ bytes 1 (length entry) ++ write-all (bytes 4) entry
 
 -- … and `CE`.
 unfoldable pub write-CE : List (List ℕ) → List ℕ
-write-CE C = (0x43 ∷ 0x45 ∷ []) ++ write-all (write-all (bytes 4)) C
+write-CE C = bytes 2 CE-mark ++ write-all (write-all (bytes 4)) C
 
 -- A problem, …
 unfoldable pub write-problem : Problem → List ℕ

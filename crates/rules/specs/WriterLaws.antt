@@ -107,12 +107,12 @@ length-write-PR p m n = refl
 
 -- … `OR` 2 and one for each order, …
 pub length-write-OR : (orders : List ℕ) → length (write-OR orders) ≡ 2 + length orders
-unfolding write-OR
+unfolding write-OR bytes
 length-write-OR orders = omega (arith, length-write-numbers 1 orders)
 
 -- … `SH` 2 and two for each shift, …
 pub length-write-SH : (shifts : List ℤ) → length (write-SH shifts) ≡ 2 + 2 * length shifts
-unfolding write-SH
+unfolding write-SH bytes
 length-write-SH shifts =
     omega (arith, length-write-constant (pos 0) (λ i z. bytes 2 (unsigned z)) shifts 2 (λ i b. length-bytes 2 (unsigned (getD shifts i (pos 0)))))
 
@@ -130,5 +130,5 @@ length-write-PE i j entry = omega (arith, length-write-numbers 4 entry)
 -- … and `CE` 2 and four for each number.
 pub length-write-CE : (m n : ℕ) (C : List (List ℕ)) → length C ≡ m → ((i : ℕ) → i < m → length (getD C i []) ≡ n)
     → length (write-CE C) ≡ evidence-bytes m n
-unfolding write-CE
+unfolding write-CE bytes
 length-write-CE m n C size sizes = omega (arith, length-write-rows m n C size sizes)

@@ -2,6 +2,7 @@ use borrow.Author.Needs.{needs}
 use mathlib.Core.Path.{_∙_}
 use Prim.Native.Nat.{_+_, _-_, _*_, _≤_}
 use native.Mathlib.Omega.{arith}
+use Rattle.rules.specs.Writer.{bytes}
 use Rattle.evidence.specs.Record.{RowsPut, rows-fit, rows-start, rows-more, record-done}
 use Rattle.evidence.proofs.put_evidence.Statement.{statement}
 use Rattle.evidence.proofs.put_evidence.Tie as tie
@@ -47,6 +48,7 @@ same-length : tie.Need-same-length Inv-loop μ-loop
 same-length c = c .before .loop .inv .put .same-length ∙ c .before .before .before .before .put-text .ensures .same-length
 
 returns : tie.Need-returns Inv-loop μ-loop
+unfolding bytes
 returns c =
     let a = c .before .before .before .before .before .before .before .before .args in
     let l = c .before .loop in

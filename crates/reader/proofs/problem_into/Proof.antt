@@ -9,14 +9,15 @@ use borrow.Author.Needs.{needs}
 use Rattle.rules.specs.Sizes.{most-rows}
 use Rattle.rules.specs.Reader.{Place, refused, got, front}
 use Rattle.rules.specs.Files.{PR, read-problem}
+use Rattle.rules.specs.ReaderLaws.{Forward}
+use Rattle.rules.specs.Soundness.{InSize, sound-PR}
 use Rattle.place.specs.Places.{place, refusal}
 use Rattle.reader.specs.declared.Problem.{Problem}
 use Rattle.reader.specs.Head.{headed}
 use Rattle.reader.specs.Values.{body-reader, problem-value, problem-of, head-refused, head-given, with-arrays}
 use Rattle.reader.specs.Records.{refused-into}
 use Rattle.reader.specs.Arrays.{filled-length}
-use Rattle.reader.specs.Extent.{PR-moves, problem-refused}
-use Rattle.reader.specs.Reach.{Near, moved-got}
+use Rattle.reader.specs.Extent.{problem-refused}
 use Rattle.reader.specs.Flat.{body-into, filled, coefficients}
 use Rattle.reader.specs.Storing.{into, into-got, into-refused, going-on, going-off}
 use Rattle.reader.proofs.problem_into.Statement.{statement}
@@ -46,8 +47,10 @@ head-on : (c : tie.After-known-told2) → let c₆ = c .before .before .before .
 head-on c = sym (head-read (c .before .before .before)) ∙ ap headed (c .before .h .given .1)
 
 -- What `PR` gave is in size, and it is one record on.
-head-known : (c : tie.After-known-told2) → ((c .before .h .given .0 .0 .m ≤ most-rows) × (c .before .h .given .0 .0 .n ≤ most-rows)) × Near 1 8 (front 0) (place (c .before .h .given .0 .1 .0))
-head-known c = moved-got PR-moves (c .before .before .before .before .before .before .args .s .now) (front 0) (head-on c)
+head-known : (c : tie.After-known-told2)
+    → let given = c .before .h .given .0 in
+    InSize (given .0 .p, given .0 .m, given .0 .n) × Forward 8 1 (c .before .before .before .before .before .before .args .s .now) (front 0) (place (given .1 .0))
+head-known c = sound-PR .gives (c .before .before .before .before .before .before .args .s .now) (front 0) (head-on c)
 
 off-requires : tie.Need-off-requires
 off-requires c κs = problem-refused (c .before .before .before .before .before .before .args .s .now) (head-off c)
@@ -59,7 +62,7 @@ read-body-requires : tie.Need-read-body-requires
 read-body-requires c κs =
     let known = head-known (c .before .before .before) in
     let pre = c .before .before .before .before .before .before .before .before .before .pre in (
-      (omega (arith, known .1 .counted), known .0 .0, known .0 .1),
+      (omega (arith, known .1 .number), known .0 .rows-most, known .0 .columns-most),
       (
         pre .0,
         (

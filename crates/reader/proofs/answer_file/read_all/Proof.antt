@@ -9,9 +9,9 @@ use borrow.Author.Tests.{not-true, not-false}
 use Rattle.rules.specs.Sizes.{most-rows}
 use Rattle.rules.specs.Reader.{got}
 use Rattle.rules.specs.Files.{CE, entries-reader}
+use Rattle.rules.specs.Soundness.{sound-entries}
 use Rattle.reader.specs.Values.{answer-parts, answer-parts-refused}
 use Rattle.reader.specs.Records.{then-refused, then-given, refused-into}
-use Rattle.reader.specs.Extent.{entries-counted}
 use Rattle.reader.specs.Flat.{entries-into, evidence-into, answer-into, cells}
 use Rattle.reader.specs.Storing.{into, pour, into-got, into-refused, file-end, going-on, going-off}
 use Rattle.place.specs.Places.{place}
@@ -63,7 +63,7 @@ unfolding cells most-rows
 read-evidence-requires c κs =
     let c₁₆ = c .before .before .before .before .before .before .before .before .before .before .before .before .before .before .before .before in
     let pre = c₁₆ .pre in
-    omega (arith, c₁₆ .pre, entries-counted _ _ _ _ (pre .0 .1) (entries-read (c .before .before) .1))
+    omega (arith, c₁₆ .pre, sound-entries _ _ (pre .0 .1) .gives _ _ (entries-read (c .before .before) .1) .1 .number)
 
 enum-known-x-2 : tie.Need-enum-known-x-2
 enum-known-x-2 c = search needs

@@ -1,6 +1,7 @@
 -- `reader::answer_file::read_entries` meets its contract. The loop's invariant: what is still to be read, stored into what stands there by now, is the whole
 -- work (`Kept`). The measure is how much is left. Assumes nothing.
 use mathlib.Core.Path.{_≡_, refl, _∙_}
+use mathlib.Core.List.{[]}
 use Prim.Native.Nat.{_+_, _-_, _*_, _≤_}
 use native.Mathlib.Omega.{arith}
 use lib.ListN.{length}
@@ -8,11 +9,11 @@ use borrow.Author.Needs.{needs}
 use Rattle.rules.specs.Sizes.{most-rows}
 use Rattle.rules.specs.Reader.{each}
 use Rattle.rules.specs.Files.{PE, entries-reader}
-use Rattle.reader.specs.Extent.{PE-moves}
-use Rattle.reader.specs.Records.{stored-near}
+use Rattle.rules.specs.ReaderLaws.{sound-each}
+use Rattle.rules.specs.Soundness.{sound-PE}
+use Rattle.reader.specs.Records.{stored-forward}
 use Rattle.reader.specs.Flat.{row-into, cells}
 use Rattle.reader.specs.Storing.{Kept, began, stopped, went-on, ended, going-off, going-on}
-use Rattle.reader.specs.Reach.{moves-each}
 use Rattle.place.specs.Places.{place}
 use Rattle.reader.proofs.answer_file.read_entries.Statement.{statement}
 use Rattle.reader.proofs.answer_file.read_entries.Tie as tie
@@ -79,7 +80,7 @@ loop-again c =
       c₇ .read-row .kept .1 .1 .1 .1 .1 .0 ∙ loop .inv .1,
       c₇ .read-row .kept .1 .1 .1 .1 .1 .1 .0 ∙ loop .inv .2,
       omega
-          (arith, stored-near _ _ _ (going-on _ (c₇ .read-row .ensures) (c .before .next .given .1)) (moves-each (args .m) _ (λ j. PE-moves (args .p) (loop .i) j) .from _ _) .counted, loop .inv, c₁₅ .pre),
+          (arith, stored-forward (sound-each [] (args .m) _ (sound-PE (args .p) (loop .i))) _ _ _ (going-on _ (c₇ .read-row .ensures) (c .before .next .given .1)) .number, loop .inv, c₁₅ .pre),
       went-on (loop .inv .4) (c₁₀ .loop-test .taken) (going-on _ (c₇ .read-row .ensures) (c .before .next .given .1)),
     )
 

@@ -6,16 +6,14 @@ use native.Mathlib.Omega.{arith}
 use lib.ListN.{set}
 use borrow.Author.Needs.{needs}
 use Rattle.rules.specs.Sizes.{most-rows, most-length}
-use Rattle.rules.specs.Reader.{each, Place, field}
-use Rattle.rules.specs.Files.{PE, coefficient-test}
-use Rattle.rules.specs.ReaderLaws.{opening}
+use Rattle.rules.specs.Reader.{each, Place, mark, field}
+use Rattle.rules.specs.Files.{PE-mark, PE, coefficient-test}
+use Rattle.rules.specs.ReaderLaws.{opening, sound-each}
+use Rattle.rules.specs.Soundness.{sound-coefficient}
 use Rattle.layout.specs.Flat.{square-place}
-use Rattle.cursor.specs.declared.Test.the-variants.{Mark}
 use Rattle.reader.specs.Flat.{put-entry, run-into, cells, entry-cells}
 use Rattle.reader.specs.Storing.{into}
-use Rattle.reader.specs.Records.{closed-into, list-numbered, refuses, gives, record-refused, record-given, refused-into, field-near, count-moves, PE-after-mark, beside}
-use Rattle.reader.specs.Reach.{any-field, moves-each, moved-got}
-use Rattle.cursor.specs.Tests.{code-of}
+use Rattle.reader.specs.Records.{closed-into, list-numbered, refuses, gives, record-refused, record-given, refused-into, field-number, sound-counts, PE-after-mark, beside}
 use Rattle.place.specs.Places.{place, taken, going}
 use Rattle.reader.proofs.answer_file.read_entry.Statement.{statement}
 use Rattle.reader.proofs.answer_file.read_entry.Tie as tie
@@ -28,11 +26,11 @@ read-requires c κs = search needs
 
 -- The mark, at the record's first byte.
 mark-read : (c : tie.After-read) → let args = c .before .before .before .before .before .args in
-    taken (c .read .result) ≡ field 2 (code-of Mark 17744 0) (args .s .now) (opening (place (args .q)))
+    taken (c .read .result) ≡ mark PE-mark (args .s .now) (opening (place (args .q)))
 mark-read c =
     let c₅ = c .before .before .before .before .before in
     c .read .ensures
-    ∙ ap (λ (p : Place). field 2 (code-of Mark 17744 0) (c₅ .args .s .now) p) (ap place (c .before .opened .ensures))
+    ∙ ap (λ (p : Place). mark PE-mark (c₅ .args .s .now) p) (ap place (c .before .opened .ensures))
 
 enum-known-x : tie.Need-enum-known-x
 enum-known-x c = search needs
@@ -80,7 +78,7 @@ run-requires c κs =
     let c₁₄ = c₅ .before .before .before .before .before .before .before .before .before in
     let args = c₁₄ .args in
     omega
-    (arith, c .before .square-place .ensures, c₁₄ .pre, moved-got (count-moves (args .i) (args .j)) _ _ (gives (c₅ .entry-count .ensures) (c .before .before .before .l .given .1)) .0)
+    (arith, c .before .square-place .ensures, c₁₄ .pre, sound-counts (args .i) (args .j) .gives _ _ (gives (c₅ .entry-count .ensures) (c .before .before .before .l .given .1)) .0)
 
 -- What `run` gives and leaves is the rules' entry, stored in its place.
 run-read : (c : tie.After-run)
@@ -114,8 +112,8 @@ entry-read c =
     let args = c₁₅ .args in
     ap (λ (k : ℕ). going {A = List ℕ × List ℕ} (c .run .result) (set (args .lengths .now) k (c₄ .l .given .0 .0), c .run .last .1 .1 .1 .1 .1 .0))
     (c .before .before .square-place .ensures)
-    ∙ beside (λ k. set (args .lengths .now) (args .i * most-rows + args .j) k) (c₄ .l .given .0 .0) _ _ _ _ _ _ (c .run .result) _ (run-read c)
-    (moves-each (c₄ .l .given .0 .0) _ (λ k. any-field 4 _) .from (args .s .now) (place (c₄ .l .given .0 .1 .0)))
+    ∙ beside (λ k. set (args .lengths .now) (args .i * most-rows + args .j) k) (c₄ .l .given .0 .0) _ _ (c .run .result) _ (run-read c)
+    (λ l q e. sound-each 0 (c₄ .l .given .0 .0) _ (sound-coefficient (args .p) (c₄ .l .given .0 .0)) .gives _ _ e .0 .size)
 
 closed-requires : tie.Need-closed-requires
 closed-requires c κs =
@@ -125,9 +123,9 @@ closed-requires c κs =
     let c₁₂ = c₁₀ .before .before in
     let c₁₇ = c₁₂ .before .before .before .before .before in
     let args = c₁₇ .args in
-    list-numbered (c .before .before .run .last .1 .1 .1 .1 .1 .0) _ _ _ _ _ (c .before .before .run .result) (c .before .before .run .ensures)
-    (λ k. any-field 4 _)
-    (omega (arith, field-near _ _ _ _ (mark-read (c₁₂)) (c₁₀ .q1 .given .1) .counted, moved-got (count-moves (args .i) (args .j)) _ _ (gives (c₈ .entry-count .ensures) (c₆ .l .given .1)) .1 .counted, c₁₇ .pre .0))
+    list-numbered 0 (c .before .before .run .last .1 .1 .1 .1 .1 .0) _ _ _ _ _ (c .before .before .run .result) (c .before .before .run .ensures)
+    (sound-coefficient _ _)
+    (omega (arith, field-number _ _ _ _ (mark-read (c₁₂)) (c₁₀ .q1 .given .1), sound-counts (args .i) (args .j) .gives _ _ (gives (c₈ .entry-count .ensures) (c₆ .l .given .1)) .1 .number, c₁₇ .pre .0))
 
 returns : tie.Need-returns
 unfolding PE

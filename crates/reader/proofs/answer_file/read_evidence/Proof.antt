@@ -1,16 +1,15 @@
 -- `reader::answer_file::read_evidence` meets its contract. Assumes nothing.
 use mathlib.Core.Path.{_≡_, sym, ap, _∙_}
+use mathlib.Core.List.{[]}
 use native.Mathlib.Omega.{arith}
 use borrow.Author.Needs.{needs}
 use Rattle.rules.specs.Sizes.{most-rows}
-use Rattle.rules.specs.Reader.{Place, field}
-use Rattle.rules.specs.Files.{CE}
+use Rattle.rules.specs.Reader.{Place, mark}
+use Rattle.rules.specs.Files.{CE-mark, CE}
 use Rattle.rules.specs.ReaderLaws.{opening}
-use Rattle.cursor.specs.declared.Test.the-variants.{Mark}
 use Rattle.reader.specs.Flat.{evidence-into, cells}
 use Rattle.reader.specs.Storing.{into}
-use Rattle.reader.specs.Records.{closed-into, list-numbered, refuses, gives, record-refused, record-given, refused-into, field-near, block-row-moves}
-use Rattle.cursor.specs.Tests.{code-of}
+use Rattle.reader.specs.Records.{closed-into, list-numbered, refuses, gives, record-refused, record-given, refused-into, field-number, sound-row}
 use Rattle.place.specs.Places.{place, taken}
 use Rattle.reader.proofs.answer_file.read_evidence.Statement.{statement}
 use Rattle.reader.proofs.answer_file.read_evidence.Tie as tie
@@ -23,10 +22,10 @@ read-requires c κs = search needs
 
 -- The mark, at the record's first byte.
 mark-read : (c : tie.After-read) → let args = c .before .before .before .before .args in
-    taken (c .read .result) ≡ field 2 (code-of Mark 17731 0) (args .s .now) (opening (place (args .q)))
+    taken (c .read .result) ≡ mark CE-mark (args .s .now) (opening (place (args .q)))
 mark-read c =
     c .read .ensures
-    ∙ ap (λ (p : Place). field 2 (code-of Mark 17731 0) (c .before .before .before .before .args .s .now) p) (ap place (c .before .opened .ensures))
+    ∙ ap (λ (p : Place). mark CE-mark (c .before .before .before .before .args .s .now) p) (ap place (c .before .opened .ensures))
 
 enum-known-x : tie.Need-enum-known-x
 enum-known-x c = search needs
@@ -42,8 +41,8 @@ closed-requires : tie.Need-closed-requires
 closed-requires c κs =
     let c₅ = c .before .before .before .before .before in
     let c₇ = c₅ .before .before in
-    list-numbered (c .before .before .block .last .1 .1 .1 .1 .1 .0) _ _ _ _ _ (c .before .before .block .result) (c .before .before .block .ensures)
-    (λ i. block-row-moves _ _) (omega (arith, field-near _ _ _ _ (mark-read (c₇)) (c₅ .q1 .given .1) .counted))
+    list-numbered [] (c .before .before .block .last .1 .1 .1 .1 .1 .0) _ _ _ _ _ (c .before .before .block .result) (c .before .before .block .ensures)
+    (λ i. sound-row _ _) (omega (arith, field-number _ _ _ _ (mark-read (c₇)) (c₅ .q1 .given .1)))
 
 returns : tie.Need-returns
 unfolding CE

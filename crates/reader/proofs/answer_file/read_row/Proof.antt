@@ -6,8 +6,8 @@ use native.Mathlib.Omega.{arith}
 use lib.ListN.{length}
 use borrow.Author.Needs.{needs}
 use Rattle.rules.specs.Files.{PE}
-use Rattle.reader.specs.Extent.{PE-moves}
-use Rattle.reader.specs.Records.{stored-near}
+use Rattle.rules.specs.Soundness.{sound-PE}
+use Rattle.reader.specs.Records.{stored-forward}
 use Rattle.reader.specs.Flat.{put-entry}
 use Rattle.reader.specs.Storing.{Kept, began, stopped, went-on, ended, going-off, going-on}
 use Rattle.place.specs.Places.{place}
@@ -72,7 +72,7 @@ loop-again c =
       c₇ .read-entry .kept .1 .1 .1 .1 .1 .0 ∙ loop .inv .1,
       c₇ .read-entry .kept .1 .1 .1 .1 .1 .1 .0 ∙ loop .inv .2,
       omega
-          (arith, stored-near _ _ _ (going-on _ (c₇ .read-entry .ensures) (c .before .next .given .1)) (PE-moves (args .p) (args .i) (loop .j) .from _ _) .counted, loop .inv),
+          (arith, stored-forward (sound-PE (args .p) (args .i) (loop .j)) _ _ _ (going-on _ (c₇ .read-entry .ensures) (c .before .next .given .1)) .number, loop .inv),
       went-on (loop .inv .4) (c₁₀ .loop-test .taken) (going-on _ (c₇ .read-entry .ensures) (c .before .next .given .1)),
     )
 

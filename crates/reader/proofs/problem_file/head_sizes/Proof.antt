@@ -7,7 +7,7 @@ use Rattle.rules.specs.Sizes.{most-rows}
 use Rattle.rules.specs.Reader.{Result, got, field, unless, next}
 use Rattle.rules.specs.Files.{one-to}
 use Rattle.place.specs.declared.Place.{Place as Spot}
-use Rattle.reader.specs.Records.{sizes-reader, refuses, gives, record-refused, record-given, field-near}
+use Rattle.reader.specs.Records.{sizes-reader, refuses, gives, record-refused, record-given, field-number}
 use Rattle.place.specs.Places.{place, taken}
 use Rattle.reader.proofs.problem_file.head_sizes.Statement.{statement}
 use Rattle.reader.proofs.problem_file.head_sizes.Tie as tie
@@ -58,7 +58,7 @@ after-requires c κs =
     let c₅ = c .before .before .before .before .before in
     let c₇ = c₅ .before .before in
     omega
-    (arith, field-near _ _ _ _ (m-read (c₇)) (c₅ .m .given .1) .counted, field-near _ _ _ _ (n-read (c .before .before .before)) (c .before .n .given .1) .counted)
+    (arith, field-number _ _ _ _ (m-read (c₇)) (c₅ .m .given .1), field-number _ _ _ _ (n-read (c .before .before .before)) (c .before .n .given .1))
 
 returns : tie.Need-returns
 unfolding sizes-reader

@@ -9,11 +9,11 @@ use borrow.Author.Needs.{needs}
 use Rattle.rules.specs.Sizes.{most-rows, most-order}
 use Rattle.rules.specs.Reader.{got, each}
 use Rattle.rules.specs.Files.{OR, SH, FC}
+use Rattle.rules.specs.ReaderLaws.{Forward, Listed}
+use Rattle.rules.specs.Soundness.{sound-OR, sound-SH, listed-all}
 use Rattle.reader.specs.Values.{body-reader}
 use Rattle.reader.specs.Records.{then-refused, then-given, refused-into}
 use Rattle.reader.specs.Arrays.{list-at, filled-length}
-use Rattle.reader.specs.Extent.{OR-moves, SH-moves}
-use Rattle.reader.specs.Reach.{All, Near, all-at, moved-got}
 use Rattle.reader.specs.Flat.{list-into, shifts-into, columns-into, body-into}
 use Rattle.reader.specs.Storing.{into, into-got, into-refused, file-end, going-on, going-off}
 use Rattle.place.specs.Places.{place}
@@ -44,22 +44,22 @@ orders-read c = into-got _ _ (going-on _ (c .before .before .before .before .bef
 orders-known : (c : tie.After-known-told2)
     → let c₁₀ = c .before .before .before .before .before .before .before .before .before .before in
     let args = c₁₀ .args in
-    (All (λ d. d ≤ most-order) (orders-read c .0) × (length (orders-read c .0) ≡ args .n)) × Near 1 (2 + args .n) (place (args .q)) (place (c .before .q1 .given .0 .0))
+    Listed (args .n) 0 (λ j d. (1 ≤ d) × (d ≤ most-order)) (orders-read c .0) × Forward (2 + args .n) 1 (args .s .now) (place (args .q)) (place (c .before .q1 .given .0 .0))
 orders-known c =
     let args = c .before .before .before .before .before .before .before .before .before .before .args in
-    moved-got (OR-moves (args .n)) (args .s .now) (place (args .q)) (orders-read c .1)
+    sound-OR (args .n) .gives (args .s .now) (place (args .q)) (orders-read c .1)
 
 orders-at : (c : tie.After-known-told2) (j : ℕ) → let c₅ = c .before .before .before .before .before in
     getD (c₅ .read-orders .last .1 .1 .1 .0) j 0 ≡ getD (orders-read c .0) j 0
 orders-at c j =
     let pre = c .before .before .before .before .before .before .before .before .before .before .pre in
     ap (λ (l : List ℕ). getD l j 0) (sym (orders-read c .2) ∙ ap (λ (l : List ℕ). list-into l (orders-read c .0)) (pre .1 .0))
-    ∙ list-at most-rows (orders-read c .0) (omega (arith, orders-known c .0 .1, pre .0 .2)) j
+    ∙ list-at most-rows (orders-read c .0) (omega (arith, orders-known c .0 .size, pre .0 .2)) j
 
 read-shifts-requires : tie.Need-read-shifts-requires
 read-shifts-requires c κs =
     let pre = c .before .before .before .before .before .before .before .before .before .before .before .pre in
-    omega (arith, pre .0, pre .1 .1, orders-known (c .before) .1 .counted)
+    omega (arith, pre .0, pre .1 .1, orders-known (c .before) .1 .number)
 
 enum-known-x-2 : tie.Need-enum-known-x-2
 enum-known-x-2 c = search needs
@@ -99,9 +99,9 @@ read-columns-requires c κs =
     let c₁₃ = c₈ .before .before .before .before .before in
     let c₁₈ = c₁₃ .before .before .before .before .before in
     let pre = c₁₈ .pre in (
-      (omega (arith, pre .0, orders-known (c₈) .1 .counted, moved-got (SH-moves (c₁₈ .args .m)) _ _ (shifts-read (c .before .before) .1) .1 .counted), pre .0 .1, pre .0 .2, omega (arith, pre .0, c₁₃ .read-orders .kept .1 .1 .1 .0, ap length (pre .1 .0) ∙ filled-length {E = ℕ} most-rows 0)),
+      (omega (arith, pre .0, orders-known (c₈) .1 .number, sound-SH (c₁₈ .args .m) .gives _ _ (shifts-read (c .before .before) .1) .1 .number), pre .0 .1, pre .0 .2, omega (arith, pre .0, c₁₃ .read-orders .kept .1 .1 .1 .0, ap length (pre .1 .0) ∙ filled-length {E = ℕ} most-rows 0)),
       (
-        (λ j. omega (arith, orders-at (c₈) j, all-at (λ d. d ≤ most-order) (orders-read (c₈) .0) (omega arith) (orders-known (c₈) .0 .0) j)),
+        (λ j. omega (arith, orders-at (c₈) j, listed-all (orders-read (c₈) .0) (λ d. d ≤ most-order) (omega arith) (λ j d b. b .1) (orders-known (c₈) .0) j)),
         pre .1 .1 .1,
       ),
     )

@@ -1,17 +1,16 @@
 -- `reader::problem_file::read_column` meets its contract. Assumes nothing.
 use mathlib.Core.Path.{_≡_, sym, ap, _∙_}
+use mathlib.Core.List.{[]}
 use Prim.Native.Nat.{ℕ}
 use native.Mathlib.Omega.{arith}
 use borrow.Author.Needs.{needs}
 use Rattle.rules.specs.Sizes.{most-rows, most-order}
-use Rattle.rules.specs.Reader.{each, Place, field}
-use Rattle.rules.specs.Files.{FC, due, residue}
+use Rattle.rules.specs.Reader.{each, Place, mark, field}
+use Rattle.rules.specs.Files.{FC-mark, FC, due, residue}
 use Rattle.rules.specs.ReaderLaws.{opening}
-use Rattle.cursor.specs.declared.Test.the-variants.{Mark}
 use Rattle.reader.specs.Flat.{put-column, block-into, column-size, coefficients}
 use Rattle.reader.specs.Storing.{into}
-use Rattle.reader.specs.Records.{closed-into, list-numbered, refuses, gives, record-refused, record-given, refused-into, field-near, block-row-moves}
-use Rattle.cursor.specs.Tests.{code-of}
+use Rattle.reader.specs.Records.{closed-into, list-numbered, refuses, gives, record-refused, record-given, refused-into, field-number, sound-row}
 use Rattle.place.specs.Places.{place, taken, going}
 use Rattle.reader.proofs.problem_file.read_column.Statement.{statement}
 use Rattle.reader.proofs.problem_file.read_column.Tie as tie
@@ -24,10 +23,10 @@ read-requires c κs = search needs
 
 -- The mark, at the record's first byte.
 mark-read : (c : tie.After-read) → let args = c .before .before .before .before .args in
-    taken (c .read .result) ≡ field 2 (code-of Mark 17222 0) (args .s .now) (opening (place (args .q)))
+    taken (c .read .result) ≡ mark FC-mark (args .s .now) (opening (place (args .q)))
 mark-read c =
     c .read .ensures
-    ∙ ap (λ (p : Place). field 2 (code-of Mark 17222 0) (c .before .before .before .before .args .s .now) p) (ap place (c .before .opened .ensures))
+    ∙ ap (λ (p : Place). mark FC-mark (c .before .before .before .before .args .s .now) p) (ap place (c .before .opened .ensures))
 
 enum-known-x : tie.Need-enum-known-x
 enum-known-x c = search needs
@@ -86,9 +85,9 @@ closed-requires c κs =
     let c₈ = c₆ .before .before in
     let c₁₀ = c₈ .before .before in
     let c₁₂ = c₁₀ .before .before in
-    list-numbered (c .before .before .block .last .1 .1 .1 .1 .1 .0) _ _ _ _ _ (c .before .before .block .result) (c .before .before .block .ensures)
-    (λ i. block-row-moves _ _)
-    (omega (arith, field-near _ _ _ _ (mark-read (c₁₂)) (c₁₀ .q1 .given .1) .counted, field-near _ _ _ _ (due-read (c₈)) (c₆ .q2 .given .1) .counted))
+    list-numbered [] (c .before .before .block .last .1 .1 .1 .1 .1 .0) _ _ _ _ _ (c .before .before .block .result) (c .before .before .block .ensures)
+    (λ i. sound-row _ _)
+    (omega (arith, field-number _ _ _ _ (mark-read (c₁₂)) (c₁₀ .q1 .given .1), field-number _ _ _ _ (due-read (c₈)) (c₆ .q2 .given .1)))
 
 returns : tie.Need-returns
 unfolding FC

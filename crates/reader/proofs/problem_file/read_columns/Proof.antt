@@ -6,8 +6,8 @@ use native.Mathlib.Omega.{arith}
 use lib.ListN.{length, getD}
 use borrow.Author.Needs.{needs}
 use Rattle.rules.specs.Files.{FC}
-use Rattle.reader.specs.Extent.{FC-moves}
-use Rattle.reader.specs.Records.{stored-near}
+use Rattle.rules.specs.Soundness.{sound-FC}
+use Rattle.reader.specs.Records.{stored-forward}
 use Rattle.reader.specs.Flat.{put-column}
 use Rattle.reader.specs.Storing.{Kept, began, stopped, went-on, ended, going-off, going-on}
 use Rattle.place.specs.Places.{place}
@@ -72,7 +72,7 @@ loop-again c =
       omega arith,
       c₅ .read-column .kept .1 .1 .1 .1 .1 .1 .0 ∙ loop .inv .1,
       omega
-          (arith, stored-near _ _ _ (going-on _ (c₅ .read-column .ensures) (c .before .next .given .1)) (FC-moves (args .p) (args .m) _ (loop .j) .from _ _) .counted),
+          (arith, stored-forward (sound-FC (args .p) (args .m) _ (loop .j) (c₁₃ .pre .0 .1) (c₁₃ .pre .1 .0 (loop .j))) _ _ _ (going-on _ (c₅ .read-column .ensures) (c .before .next .given .1)) .number),
       went-on (loop .inv .3) (c₈ .loop-test .taken) (going-on _ (c₅ .read-column .ensures) (c .before .next .given .1)),
     )
 

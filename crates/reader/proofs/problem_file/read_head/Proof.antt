@@ -2,12 +2,10 @@
 use mathlib.Core.Path.{_≡_, sym, ap, _∙_}
 use native.Mathlib.Omega.{arith}
 use borrow.Author.Needs.{needs}
-use Rattle.rules.specs.Reader.{Place, field, unless}
-use Rattle.rules.specs.Files.{PR, allowed-prime}
+use Rattle.rules.specs.Reader.{Place, mark, field, unless}
+use Rattle.rules.specs.Files.{PR-mark, PR, allowed-prime}
 use Rattle.rules.specs.ReaderLaws.{opening}
-use Rattle.cursor.specs.declared.Test.the-variants.{Mark}
-use Rattle.reader.specs.Records.{sizes-reader, refuses, gives, record-refused, record-given, field-near}
-use Rattle.cursor.specs.Tests.{code-of}
+use Rattle.reader.specs.Records.{sizes-reader, refuses, gives, record-refused, record-given, field-number}
 use Rattle.place.specs.Places.{place, taken}
 use Rattle.reader.proofs.problem_file.read_head.Statement.{statement}
 use Rattle.reader.proofs.problem_file.read_head.Tie as tie
@@ -20,10 +18,10 @@ read-requires c κs = search needs
 
 -- The mark, at the record's first byte.
 mark-read : (c : tie.After-read) → let args = c .before .before .before .args in
-    taken (c .read .result) ≡ field 2 (code-of Mark 21072 0) (args .s .now) (opening (place (args .q)))
+    taken (c .read .result) ≡ mark PR-mark (args .s .now) (opening (place (args .q)))
 mark-read c =
     c .read .ensures
-    ∙ ap (λ (p : Place). field 2 (code-of Mark 21072 0) (c .before .before .before .args .s .now) p) (ap place (c .before .opened .ensures))
+    ∙ ap (λ (p : Place). mark PR-mark (c .before .before .before .args .s .now) p) (ap place (c .before .opened .ensures))
 
 enum-known-x : tie.Need-enum-known-x
 enum-known-x c = search needs
@@ -50,7 +48,7 @@ head-sizes-requires c κs =
     let c₅ = c .before .before .before .before .before in
     let c₇ = c₅ .before .before in
     omega
-    (arith, field-near _ _ _ _ (mark-read (c₇)) (c₅ .q1 .given .1) .counted, field-near _ _ _ _ (prime-read (c .before .before .before)) (c .before .p .given .1) .counted)
+    (arith, field-number _ _ _ _ (mark-read (c₇)) (c₅ .q1 .given .1), field-number _ _ _ _ (prime-read (c .before .before .before)) (c .before .p .given .1))
 
 returns : tie.Need-returns
 unfolding PR

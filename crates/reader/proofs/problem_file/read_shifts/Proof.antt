@@ -1,16 +1,15 @@
 -- `reader::problem_file::read_shifts` meets its contract. Assumes nothing.
 use mathlib.Core.Path.{_≡_, sym, ap, _∙_}
 use native.Mathlib.Omega.{arith}
+use lib.IntN.{pos}
 use borrow.Author.Needs.{needs}
-use Rattle.rules.specs.Reader.{Place, field}
-use Rattle.rules.specs.Files.{SH}
+use Rattle.rules.specs.Reader.{Place, mark}
+use Rattle.rules.specs.Files.{SH-mark, SH}
 use Rattle.rules.specs.ReaderLaws.{opening}
-use Rattle.cursor.specs.declared.Test.the-variants.{Mark}
+use Rattle.rules.specs.Soundness.{sound-shift}
 use Rattle.reader.specs.Flat.{shifts-into}
 use Rattle.reader.specs.Storing.{into}
-use Rattle.reader.specs.Records.{closed-into, list-numbered, refuses, gives, record-refused, record-given, refused-into, field-near}
-use Rattle.reader.specs.Shifts.{shift-moves}
-use Rattle.cursor.specs.Tests.{code-of}
+use Rattle.reader.specs.Records.{closed-into, list-numbered, refuses, gives, record-refused, record-given, refused-into, field-number}
 use Rattle.place.specs.Places.{place, taken}
 use Rattle.reader.proofs.problem_file.read_shifts.Statement.{statement}
 use Rattle.reader.proofs.problem_file.read_shifts.Tie as tie
@@ -23,10 +22,10 @@ read-requires c κs = search needs
 
 -- The mark, at the record's first byte.
 mark-read : (c : tie.After-read) → let args = c .before .before .before .args in
-    taken (c .read .result) ≡ field 2 (code-of Mark 18515 0) (args .s .now) (opening (place (args .q)))
+    taken (c .read .result) ≡ mark SH-mark (args .s .now) (opening (place (args .q)))
 mark-read c =
     c .read .ensures
-    ∙ ap (λ (p : Place). field 2 (code-of Mark 18515 0) (c .before .before .before .args .s .now) p) (ap place (c .before .opened .ensures))
+    ∙ ap (λ (p : Place). mark SH-mark (c .before .before .before .args .s .now) p) (ap place (c .before .opened .ensures))
 
 enum-known-x : tie.Need-enum-known-x
 enum-known-x c = search needs
@@ -41,8 +40,8 @@ closed-requires : tie.Need-closed-requires
 closed-requires c κs =
     let c₄ = c .before .before .before .before in
     let c₆ = c₄ .before .before in
-    list-numbered (c .before .shift-list .last .1 .1 .1 .0) _ _ _ _ _ (c .before .shift-list .result) (c .before .shift-list .ensures)
-    (λ j. shift-moves) (omega (arith, field-near _ _ _ _ (mark-read (c₆)) (c₄ .q1 .given .1) .counted))
+    list-numbered (pos 0) (c .before .shift-list .last .1 .1 .1 .0) _ _ _ _ _ (c .before .shift-list .result) (c .before .shift-list .ensures)
+    (λ j. sound-shift) (omega (arith, field-number _ _ _ _ (mark-read (c₆)) (c₄ .q1 .given .1)))
 
 returns : tie.Need-returns
 unfolding SH
