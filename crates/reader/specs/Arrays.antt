@@ -15,7 +15,7 @@ use Rattle.rules.specs.Matrices.{at}
 use Rattle.layout.specs.Flat.{column-place, entry-place, square-place}
 use Rattle.reader.specs.Storing.{pour}
 use Rattle.reader.specs.Poured.{All, Blocks, poured-length, poured-below, poured-above, poured-at, pour-both, pour-same, Every, every-set, every-pour}
-use Rattle.reader.specs.Flat.{filled, put-from, run-into, put-row, block-into, row-fits, list-into, shifts-into, put-column, columns-into, column-size, coefficients, row-into, entries-into, evidence-into, cells, entry-cells}
+use Rattle.reader.specs.Flat.{filled, put-from, run-into, put-row, block-into, row-fits, list-into, shifts-into, put-column, columns-into, coefficients, row-into, entries-into, evidence-into, cells, entry-cells}
 
 -- A property that everything has.
 abbrev Any : {A : Type 0} → A → Type 0
@@ -137,24 +137,40 @@ module _ (rows stride : ℕ) where
       (arith, filled-length {E = ℕ} (n * (rows * stride)) 0, ap (λ (n : ℕ). n * (rows * stride)) (zero-add (length T)), mul-le-mul-right (rows * stride) len))
       (λ x hx. filled-at (n * (rows * stride)) 0 x)
 
+-- The coefficients of F stand in tables one after the other, one for each column; those of P in one for each row.
+column-table : (i j k : ℕ) → column-place i j k ≡ j * (most-rows * most-order) + (i * most-order + k)
+unfolding column-place
+column-table i j k = omega (arith, add-mul (j * most-rows) i most-order, mul-assoc j most-rows most-order)
+
+entry-table : (i j k : ℕ) → entry-place i j k ≡ i * (most-rows * most-length) + (j * most-length + k)
+unfolding entry-place
+entry-table i j k = omega (arith, add-mul (i * most-rows) j most-length, mul-assoc i most-rows most-length)
+
+columns-tables : (st : List ℕ) (F : List (List (List ℕ))) → columns-into st F ≡ pour (put-table most-rows most-order) 0 st F
+columns-tables st F =
+    pour-same put-column (put-table most-rows most-order) 0 st F
+    (λ st j l. ap (λ (b : ℕ). block-into b most-order st l) (omega (arith, column-table 0 j 0)))
+
 -- The coefficients of F in their array.
 pub columns-at : (F : List (List (List ℕ))) → length F ≤ most-rows → All (Table most-rows most-order) F → (i j k : ℕ) → i < most-rows → k < most-order
     → getD (columns-into (filled coefficients 0) F) (column-place i j k) 0 ≡ getD (at F j i) k 0
-unfolding column-size coefficients column-place
+unfolding cells coefficients
 columns-at F len good i j k hi hk =
-    let p : (j * most-rows + i) * most-order + k ≡ j * (most-rows * most-order) + (i * most-order + k) =
-    omega (arith, add-mul (j * most-rows) i most-order, mul-assoc j most-rows most-order) in
-    ap (λ (x : ℕ). getD (columns-into (filled coefficients 0) F) x 0) p ∙ tables-at most-rows most-order most-rows F len good j i k hi hk
+    ap (λ (x : ℕ). getD (columns-into (filled coefficients 0) F) x 0) (column-table i j k)
+    ∙ ap (λ (l : List ℕ). getD l (j * (most-rows * most-order) + (i * most-order + k)) 0) (columns-tables (filled coefficients 0) F)
+    ∙ ap (λ (n : ℕ). getD (pour (put-table most-rows most-order) 0 (filled n 0) F) (j * (most-rows * most-order) + (i * most-order + k)) 0)
+    (mul-assoc most-rows most-rows most-order)
+    ∙ tables-at most-rows most-order most-rows F len good j i k hi hk
 
 -- The entries of P: their lengths and their coefficients apart.
 abbrev put-length : ℕ → List ℕ → ℕ → List ℕ → List ℕ
-put-length i st j l = set st (i * most-rows + j) (length l)
+put-length i st j l = set st (square-place i j) (length l)
 
 abbrev put-lengths : List ℕ → ℕ → List (List ℕ) → List ℕ
 put-lengths st i row = pour (put-length i) 0 st row
 
 abbrev put-coefficients : ℕ → List ℕ → ℕ → List ℕ → List ℕ
-put-coefficients i st j l = run-into ((i * most-rows + j) * most-length) st l
+put-coefficients i st j l = run-into (entry-place i j 0) st l
 
 pub entries-parts : (st : List ℕ × List ℕ) (P : List (List (List ℕ)))
     → entries-into st P ≡ (pour put-lengths 0 (st .0) P, pour (put-table most-rows most-length) 0 (st .1) P)
@@ -164,23 +180,21 @@ entries-parts st P =
     pour-both (put-length i) (put-coefficients i) 0 st row
     ∙ ap (λ (l : List ℕ). (put-lengths (st .0) i row, l))
     (pour-same (put-coefficients i) (put-row (i * (most-rows * most-length)) most-length) 0 (st .1) row
-    (λ st j l.
-    ap (λ (b : ℕ). run-into b st l) (add-mul (i * most-rows) j most-length ∙ ap (λ (x : ℕ). x + j * most-length) (mul-assoc i most-rows most-length)))))
+    (λ st j l. ap (λ (b : ℕ). run-into b st l) (omega (arith, entry-table i j 0)))))
     ∙ pour-both put-lengths (put-table most-rows most-length) 0 st P
 
 pub entries-at : (P : List (List (List ℕ))) → length P ≤ most-rows → All (Table most-rows most-length) P → (i j k : ℕ) → j < most-rows → k < most-length
     → getD (entries-into (filled cells 0, filled entry-cells 0) P .1) (entry-place i j k) 0 ≡ getD (at P i j) k 0
-unfolding cells entry-cells entry-place
+unfolding cells entry-cells
 entries-at P len good i j k hj hk =
-    let p : (i * most-rows + j) * most-length + k ≡ i * (most-rows * most-length) + (j * most-length + k) =
-    omega (arith, add-mul (i * most-rows) j most-length, mul-assoc i most-rows most-length) in
-    ap (λ (x : ℕ). getD (entries-into (filled cells 0, filled entry-cells 0) P .1) x 0) p
+    ap (λ (x : ℕ). getD (entries-into (filled cells 0, filled entry-cells 0) P .1) x 0) (entry-table i j k)
     ∙ ap (λ (l : List ℕ × List ℕ). getD (l .1) (i * (most-rows * most-length) + (j * most-length + k)) 0) (entries-parts (filled cells 0, filled entry-cells 0) P)
     ∙ ap (λ (n : ℕ). getD (pour (put-table most-rows most-length) 0 (filled n 0) P) (i * (most-rows * most-length) + (j * most-length + k)) 0)
     (mul-assoc most-rows most-rows most-length)
     ∙ tables-at most-rows most-length most-rows P len good i j k hj hk
 
 length-blocks : Blocks 0 put-lengths 0 most-rows (λ row. length row ≤ most-rows) (λ j. j < most-rows) (λ j. j) (λ row j. length (getD row j [])) []
+unfolding square-place
 length-blocks =
     record {
       keeps = λ st i row. one-length 0 length [] refl (i * most-rows) (put-length i) (λ st j l. refl) st row;
@@ -227,7 +241,7 @@ module _ (Q : ℕ → Type 0) where
 
     pub every-column : (F : List (List (List ℕ))) → All (All (All Q)) F → Every Q 0 (columns-into (filled coefficients 0) F)
     every-column F g =
-        every-pour Q 0 put-column (λ st j l h g. every-block (j * column-size) most-order st l h g) 0 (filled coefficients 0) F (every-filled coefficients) g
+        every-pour Q 0 put-column (λ st j l h g. every-block (column-place 0 j 0) most-order st l h g) 0 (filled coefficients 0) F (every-filled coefficients) g
 
     pub every-entry : (P : List (List (List ℕ))) → All (All (All Q)) P → Every Q 0 (entries-into (filled cells 0, filled entry-cells 0) P .1)
     every-entry P g =
@@ -239,7 +253,7 @@ module _ (Q : ℕ → Type 0) where
     every-length P g =
         subst (λ (l : List ℕ × List ℕ). Every Q 0 (l .0)) (sym (entries-parts (filled cells 0, filled entry-cells 0) P))
         (every-pour Q 0 put-lengths
-        (λ st i row h g. every-pour Q 0 (put-length i) (λ st j l h g. every-set Q 0 st (i * most-rows + j) (length l) h g) 0 st row h g) 0 (filled cells 0) P
+        (λ st i row h g. every-pour Q 0 (put-length i) (λ st j l h g. every-set Q 0 st (square-place i j) (length l) h g) 0 st row h g) 0 (filled cells 0) P
         (every-filled cells) g)
 
     pub every-constant : (C : List (List ℕ)) → All (All Q) C → Every Q 0 (evidence-into (filled cells 0) C)

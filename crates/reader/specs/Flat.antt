@@ -16,6 +16,7 @@ use native.Mathlib.Omega.{arith}
 use lib.ListN.{set, length, replicate}
 use lib.IntN.{ℤ}
 use Rattle.rules.specs.Sizes.{most-rows, most-order, most-length}
+use Rattle.layout.specs.Flat.{square-place, entry-place, column-place}
 use Rattle.reader.specs.Storing.{pour}
 
 -- n times the same.
@@ -40,28 +41,26 @@ put-row base stride st i l = run-into (base + i * stride) st l
 abbrev pub block-into : ℕ → ℕ → List ℕ → List (List ℕ) → List ℕ
 block-into base stride st rows = pour (put-row base stride) 0 st rows
 
--- The coefficients of F: ROWS rows of ORDER for each column.
-unfoldable pub column-size : ℕ
-column-size = most-rows * most-order
+-- The entries of a matrix.
+unfoldable pub cells : ℕ
+cells = most-rows * most-rows
 
+-- The coefficients of F: each column's from the place of its first one on, and in it each row's.
 abbrev pub put-column : List ℕ → ℕ → List (List ℕ) → List ℕ
-put-column st j column = block-into (j * column-size) most-order st column
+put-column st j column = block-into (column-place 0 j 0) most-order st column
 
 abbrev pub columns-into : List ℕ → List (List (List ℕ)) → List ℕ
 columns-into st F = pour put-column 0 st F
 
 unfoldable pub coefficients : ℕ
-coefficients = most-rows * column-size
+coefficients = cells * most-order
 
--- The entries of P: their lengths, and LENGTH coefficients for each, row by row.
-unfoldable pub cells : ℕ
-cells = most-rows * most-rows
-
+-- The entries of P: the length of each, and its coefficients from the place of its first one on.
 unfoldable pub entry-cells : ℕ
 entry-cells = cells * most-length
 
 abbrev pub put-entry : ℕ → List ℕ × List ℕ → ℕ → List ℕ → List ℕ × List ℕ
-put-entry i st j l = (set (st .0) (i * most-rows + j) (length l), run-into ((i * most-rows + j) * most-length) (st .1) l)
+put-entry i st j l = (set (st .0) (square-place i j) (length l), run-into (entry-place i j 0) (st .1) l)
 
 abbrev pub row-into : List ℕ × List ℕ → ℕ → List (List ℕ) → List ℕ × List ℕ
 row-into st i row = pour (put-entry i) 0 st row

@@ -1,6 +1,6 @@
 // The records of the answer file.
 ghost use mathlib.Core.Path.{_≡_};
-ghost use Prim.Native.Nat.{_+_, _*_, _≤_, _<_};
+ghost use Prim.Native.Nat.{_+_, _≤_, _<_};
 ghost use lib.ListN.{length};
 ghost use Rattle.rules.specs.Sizes.{most-rows};
 ghost use Rattle.rules.specs.Reader.{each};
@@ -16,6 +16,7 @@ use cursor::Test;
 use cursor::read;
 use layout::LENGTH;
 use layout::ROWS;
+use layout::entry_place;
 use layout::square_place;
 use place::Field;
 use place::Going;
@@ -66,7 +67,7 @@ fn read_entry(
                 let count = l as usize;
                 let cell = square_place(i, j);
                 lengths[cell] = count;
-                closed(run(s, q2, p, count, count, entries, cell * LENGTH))
+                closed(run(s, q2, p, count, count, entries, entry_place(i, j, 0)))
             }
         },
     }

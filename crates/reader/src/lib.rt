@@ -3,7 +3,6 @@ ghost use mathlib.Core.Path.{_≡_};
 ghost use Prim.Native.Nat.{_≤_};
 ghost use lib.IntN.{pos};
 ghost use Rattle.rules.specs.Sizes.{most-rows};
-ghost use Rattle.rules.specs.Reader.{refused};
 ghost use Rattle.rules.specs.Files.{read-problem};
 ghost use Rattle.place.specs.Places.{refusal, place};
 ghost use Rattle.reader.specs.Flat.{filled, cells, coefficients, entry-cells};

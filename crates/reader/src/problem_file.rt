@@ -1,6 +1,6 @@
 // The records of the problem file.
 ghost use mathlib.Core.Path.{_≡_};
-ghost use Prim.Native.Nat.{ℕ, _+_, _*_, _≤_, _<_};
+ghost use Prim.Native.Nat.{ℕ, _+_, _≤_, _<_};
 ghost use lib.ListN.{length, getD};
 ghost use Rattle.rules.specs.Sizes.{most-rows, most-order};
 ghost use Rattle.rules.specs.Reader.{each, field, unless};
@@ -8,7 +8,7 @@ ghost use Rattle.rules.specs.Files.{PR, OR, SH, FC, one-to};
 ghost use Rattle.place.specs.Places.{place, going};
 ghost use Rattle.reader.specs.Head.{headed};
 ghost use Rattle.reader.specs.Storing.{into};
-ghost use Rattle.reader.specs.Flat.{list-into, shifts-into, put-column, columns-into, column-size, coefficients, filled, body-into};
+ghost use Rattle.reader.specs.Flat.{list-into, shifts-into, put-column, columns-into, coefficients, filled, body-into};
 ghost use Rattle.reader.specs.Shifts.{shift-reader};
 ghost use Rattle.reader.specs.Records.{sizes-reader};
 ghost use Rattle.reader.specs.Values.{body-reader};
@@ -19,6 +19,7 @@ use cursor::read_prime;
 use cursor::signed16;
 use layout::ORDER;
 use layout::ROWS;
+use layout::column_place;
 use place::Field;
 use place::Going;
 use place::Place;
@@ -38,14 +39,14 @@ const SH: u32 = 0x53 + 256 * 0x48;
 const FC: u32 = 0x46 + 256 * 0x43;
 
 // What the `PR` record holds.
-pub struct Head {
+pub(crate) struct Head {
     pub p: u32,
     pub m: usize,
     pub n: usize,
 }
 
 // What reading the `PR` record gives: its numbers and the place after it, or the refusal.
-pub enum Headed {
+pub(crate) enum Headed {
     Got(Head, Place),
     Off(Stop),
 }
@@ -153,15 +154,6 @@ pub(crate) fn read_shifts(s: &[u8], q: Place, m: usize, out: &mut [i32]) -> Goin
     }
 }
 
-// j: a column of F.
-// Where its coefficients start in the flat array.
-fn column_at(j: usize) -> usize
-    requires { ⌜ j < most-rows ⌝ }
-    ensures { λ r. ⌜ r ≡ j * column-size ⌝ }
-{
-    j * (ROWS * ORDER)
-}
-
 // s: the file. q: the place of the `FC` record of column j: m rows of d coefficients modulo p. out: where they go.
 // How the reading goes on after the record.
 fn read_column(s: &[u8], q: Place, p: u32, m: usize, d: usize, j: usize, out: &mut [u32]) -> Going
@@ -172,7 +164,7 @@ fn read_column(s: &[u8], q: Place, p: u32, m: usize, d: usize, j: usize, out: &m
         Field::Off(x) => Going::Off(x),
         Field::Value(_, q1) => match read(s, q1, Test::Due, j as u32, 0) {
             Field::Off(x) => Going::Off(x),
-            Field::Value(_, q2) => closed(block(s, q2, p, m, d, out, column_at(j), ORDER)),
+            Field::Value(_, q2) => closed(block(s, q2, p, m, d, out, column_place(0, j, 0), ORDER)),
         },
     }
 }

@@ -1,7 +1,7 @@
 -- `reader::answer_file::read_entry` meets its contract. Assumes nothing.
 use mathlib.Core.Path.{_≡_, sym, ap, _∙_}
 use mathlib.Core.List.{List}
-use Prim.Native.Nat.{ℕ, _+_, _*_}
+use Prim.Native.Nat.{ℕ}
 use native.Mathlib.Omega.{arith}
 use lib.ListN.{set}
 use borrow.Author.Needs.{needs}
@@ -10,7 +10,7 @@ use Rattle.rules.specs.Reader.{each, Place, mark, field}
 use Rattle.rules.specs.Files.{PE-mark, PE, coefficient-test}
 use Rattle.rules.specs.ReaderLaws.{opening, sound-each}
 use Rattle.rules.specs.Soundness.{sound-coefficient}
-use Rattle.layout.specs.Flat.{square-place}
+use Rattle.layout.specs.Flat.{square-place, entry-place}
 use Rattle.reader.specs.Flat.{put-entry, run-into, cells, entry-cells}
 use Rattle.reader.specs.Storing.{into}
 use Rattle.reader.specs.Records.{closed-into, list-numbered, refuses, gives, record-refused, record-given, refused-into, field-number, sound-counts, PE-after-mark, beside}
@@ -65,67 +65,63 @@ slice-write-lengths c =
     let c₁₃ = c .before .before .before .before .before .before .before .before .before .before .before .before .before in
     omega (arith, c .square-place .ensures, c₁₃ .pre)
 
-mul-run : tie.Need-mul-run
-unfolding square-place most-rows
-mul-run c =
-    let c₁₄ = c .before .before .before .before .before .before .before .before .before .before .before .before .before .before in
-    omega (arith, c .before .square-place .ensures, c₁₄ .pre)
+entry-place-requires : tie.Need-entry-place-requires
+unfolding most-length
+entry-place-requires c κs = search needs
 
 run-requires : tie.Need-run-requires
-unfolding square-place most-rows most-length cells entry-cells
+unfolding entry-place most-rows most-length cells entry-cells
 run-requires c κs =
-    let c₅ = c .before .before .before .before .before in
-    let c₁₄ = c₅ .before .before .before .before .before .before .before .before .before in
-    let args = c₁₄ .args in
+    let c₆ = c .before .before .before .before .before .before in
+    let c₁₅ = c₆ .before .before .before .before .before .before .before .before .before in
+    let args = c₁₅ .args in
     omega
-    (arith, c .before .square-place .ensures, c₁₄ .pre, sound-counts (args .i) (args .j) .gives _ _ (gives (c₅ .entry-count .ensures) (c .before .before .before .l .given .1)) .0)
+    (arith, c .entry-place .ensures, c₁₅ .pre, sound-counts (args .i) (args .j) .gives _ _ (gives (c₆ .entry-count .ensures) (c .before .before .before .before .l .given .1)) .0)
 
 -- What `run` gives and leaves is the rules' entry, stored in its place.
 run-read : (c : tie.After-run)
-    → let c₄ = c .before .before .before .before in
-    let c₁₅ = c₄ .before .before .before .before .before .before .before .before .before .before .before in
-    let args = c₁₅ .args in
-    going (c .run .result) (c .run .last .1 .1 .1 .1 .1 .0) ≡ into (run-into ((args .i * most-rows + args .j) * most-length) (args .entries .now)) (each (c₄ .l .given .0 .0) (λ k. field 4 (coefficient-test (args .p) (c₄ .l .given .0 .0) k)) (args .s .now) (place (c₄ .l .given .0 .1 .0)))
-unfolding square-place most-length
+    → let c₅ = c .before .before .before .before .before in
+    let c₁₆ = c₅ .before .before .before .before .before .before .before .before .before .before .before in
+    let args = c₁₆ .args in
+    going (c .run .result) (c .run .last .1 .1 .1 .1 .1 .0) ≡ into (run-into (entry-place (args .i) (args .j) 0) (args .entries .now)) (each (c₅ .l .given .0 .0) (λ k. field 4 (coefficient-test (args .p) (c₅ .l .given .0 .0) k)) (args .s .now) (place (c₅ .l .given .0 .1 .0)))
 run-read c =
-    let c₄ = c .before .before .before .before in
-    let c₁₅ = c₄ .before .before .before .before .before .before .before .before .before .before .before in
-    let args = c₁₅ .args in
+    let c₅ = c .before .before .before .before .before in
+    let c₁₆ = c₅ .before .before .before .before .before .before .before .before .before .before .before in
+    let args = c₁₆ .args in
     c .run .ensures
     ∙ ap
-    (λ (k : ℕ). into (run-into (k * most-length) (args .entries .now)) (each (c₄ .l .given .0 .0) (λ k. field 4 (coefficient-test (args .p) (c₄ .l .given .0 .0) k)) (args .s .now) (place (c₄ .l .given .0 .1 .0))))
-    (c .before .before .square-place .ensures)
+    (λ (k : ℕ). into (run-into k (args .entries .now)) (each (c₅ .l .given .0 .0) (λ k. field 4 (coefficient-test (args .p) (c₅ .l .given .0 .0) k)) (args .s .now) (place (c₅ .l .given .0 .1 .0))))
+    (c .before .entry-place .ensures)
 
 -- And with its length beside it.
 entry-read : (c : tie.After-run)
-    → let c₄ = c .before .before .before .before in
-    let c₁₅ = c₄ .before .before .before .before .before .before .before .before .before .before .before in
-    let args = c₁₅ .args in
+    → let c₅ = c .before .before .before .before .before in
+    let c₁₆ = c₅ .before .before .before .before .before .before .before .before .before .before .before in
+    let args = c₁₆ .args in
     going {A = List ℕ × List ℕ} (c .run .result)
-    (set (args .lengths .now) (c .before .before .square-place .result) (c₄ .l .given .0 .0), c .run .last .1 .1 .1 .1 .1 .0)
+    (set (args .lengths .now) (c .before .before .before .square-place .result) (c₅ .l .given .0 .0), c .run .last .1 .1 .1 .1 .1 .0)
     ≡ into (put-entry (args .i) (args .lengths .now, args .entries .now) (args .j))
-    (each (c₄ .l .given .0 .0) (λ k. field 4 (coefficient-test (args .p) (c₄ .l .given .0 .0) k)) (args .s .now) (place (c₄ .l .given .0 .1 .0)))
-unfolding square-place
+    (each (c₅ .l .given .0 .0) (λ k. field 4 (coefficient-test (args .p) (c₅ .l .given .0 .0) k)) (args .s .now) (place (c₅ .l .given .0 .1 .0)))
 entry-read c =
-    let c₄ = c .before .before .before .before in
-    let c₁₅ = c₄ .before .before .before .before .before .before .before .before .before .before .before in
-    let args = c₁₅ .args in
-    ap (λ (k : ℕ). going {A = List ℕ × List ℕ} (c .run .result) (set (args .lengths .now) k (c₄ .l .given .0 .0), c .run .last .1 .1 .1 .1 .1 .0))
-    (c .before .before .square-place .ensures)
-    ∙ beside (λ k. set (args .lengths .now) (args .i * most-rows + args .j) k) (c₄ .l .given .0 .0) _ _ (c .run .result) _ (run-read c)
-    (λ l q e. sound-each 0 (c₄ .l .given .0 .0) _ (sound-coefficient (args .p) (c₄ .l .given .0 .0)) .gives _ _ e .0 .size)
+    let c₅ = c .before .before .before .before .before in
+    let c₁₆ = c₅ .before .before .before .before .before .before .before .before .before .before .before in
+    let args = c₁₆ .args in
+    ap (λ (k : ℕ). going {A = List ℕ × List ℕ} (c .run .result) (set (args .lengths .now) k (c₅ .l .given .0 .0), c .run .last .1 .1 .1 .1 .1 .0))
+    (c .before .before .before .square-place .ensures)
+    ∙ beside (set (args .lengths .now) (square-place (args .i) (args .j))) (c₅ .l .given .0 .0) _ _ (c .run .result) _ (run-read c)
+    (λ l q e. sound-each 0 (c₅ .l .given .0 .0) _ (sound-coefficient (args .p) (c₅ .l .given .0 .0)) .gives _ _ e .0 .size)
 
 closed-requires : tie.Need-closed-requires
 closed-requires c κs =
-    let c₆ = c .before .before .before .before .before .before in
-    let c₈ = c₆ .before .before in
-    let c₁₀ = c₈ .before .before in
-    let c₁₂ = c₁₀ .before .before in
-    let c₁₇ = c₁₂ .before .before .before .before .before in
-    let args = c₁₇ .args in
+    let c₇ = c .before .before .before .before .before .before .before in
+    let c₉ = c₇ .before .before in
+    let c₁₁ = c₉ .before .before in
+    let c₁₃ = c₁₁ .before .before in
+    let c₁₈ = c₁₃ .before .before .before .before .before in
+    let args = c₁₈ .args in
     list-numbered 0 (c .before .before .run .last .1 .1 .1 .1 .1 .0) _ _ _ _ _ (c .before .before .run .result) (c .before .before .run .ensures)
     (sound-coefficient _ _)
-    (omega (arith, field-number _ _ _ _ (mark-read (c₁₂)) (c₁₀ .q1 .given .1), sound-counts (args .i) (args .j) .gives _ _ (gives (c₈ .entry-count .ensures) (c₆ .l .given .1)) .1 .number, c₁₇ .pre .0))
+    (omega (arith, field-number _ _ _ _ (mark-read (c₁₃)) (c₁₁ .q1 .given .1), sound-counts (args .i) (args .j) .gives _ _ (gives (c₉ .entry-count .ensures) (c₇ .l .given .1)) .1 .number, c₁₈ .pre .0))
 
 returns : tie.Need-returns
 unfolding PE
@@ -146,15 +142,15 @@ same-length-2 c = search needs
 
 returns-3 : tie.Need-returns-3
 returns-3 c =
-    let c₇ = c .before .before .before .before .before .before .before in
-    let c₉ = c₇ .before .before in
-    let c₁₁ = c₉ .before .before in
-    let c₁₃ = c₁₁ .before .before in
-    let c₁₈ = c₁₃ .before .before .before .before .before in
-    let args = c₁₈ .args in
+    let c₈ = c .before .before .before .before .before .before .before .before in
+    let c₁₀ = c₈ .before .before in
+    let c₁₂ = c₁₀ .before .before in
+    let c₁₄ = c₁₂ .before .before in
+    let c₁₉ = c₁₄ .before .before .before .before .before in
+    let args = c₁₉ .args in
     closed-into _ _ (c .before .before .before .run .result) _ (c .closed .ensures) (entry-read (c .before .before .before))
     ∙ sym
-    (ap (into (put-entry (args .i) (args .lengths .now, args .entries .now) (args .j))) (PE-after-mark _ _ _ _ _ (gives (mark-read (c₁₃)) (c₁₁ .q1 .given .1)) ∙ record-given _ (gives (c₉ .entry-count .ensures) (c₇ .l .given .1))))
+    (ap (into (put-entry (args .i) (args .lengths .now, args .entries .now) (args .j))) (PE-after-mark _ _ _ _ _ (gives (mark-read (c₁₄)) (c₁₂ .q1 .given .1)) ∙ record-given _ (gives (c₁₀ .entry-count .ensures) (c₈ .l .given .1))))
 
 pub read-entry-spec : {M : Type 1} → statement M
 read-entry-spec =
@@ -171,7 +167,7 @@ read-entry-spec =
     square-place-requires
     mul-lengths
     slice-write-lengths
-    mul-run
+    entry-place-requires
     run-requires
     closed-requires
     returns

@@ -8,7 +8,8 @@ use Rattle.rules.specs.Sizes.{most-rows, most-order}
 use Rattle.rules.specs.Reader.{each, Place, mark, field}
 use Rattle.rules.specs.Files.{FC-mark, FC, due, residue}
 use Rattle.rules.specs.ReaderLaws.{opening}
-use Rattle.reader.specs.Flat.{put-column, block-into, column-size, coefficients}
+use Rattle.layout.specs.Flat.{column-place}
+use Rattle.reader.specs.Flat.{put-column, block-into, cells, coefficients}
 use Rattle.reader.specs.Storing.{into}
 use Rattle.reader.specs.Records.{closed-into, list-numbered, refuses, gives, record-refused, record-given, refused-into, field-number, sound-row}
 use Rattle.place.specs.Places.{place, taken, going}
@@ -47,8 +48,9 @@ enum-known-x-2 c = search needs
 enum-known-q2 : tie.Need-enum-known-q2
 enum-known-q2 c = search needs
 
-column-at-requires : tie.Need-column-at-requires
-column-at-requires c κs = search needs
+column-place-requires : tie.Need-column-place-requires
+unfolding most-rows most-order
+column-place-requires c κs = search needs
 
 -- The column number, at the place after the mark.
 due-read : (c : tie.After-read2) → let args = c .before .before .before .before .before .before .before .before .args in
@@ -71,13 +73,13 @@ block-read c =
     c .block .ensures
     ∙ ap
     (λ (b : ℕ). into (block-into b most-order (args .out .now)) (each (args .m) (λ i. each (args .d) (λ k. field 4 (residue (args .p)))) (args .s .now) (place (c₄ .q2 .given .0 .1 .0))))
-    (c .before .column-at .ensures)
+    (c .before .column-place .ensures)
 
 block-requires : tie.Need-block-requires
-unfolding column-size coefficients most-rows most-order
+unfolding column-place cells coefficients most-rows most-order
 block-requires c κs =
     let c₁₃ = c .before .before .before .before .before .before .before .before .before .before .before .before .before in
-    omega (arith, c .column-at .ensures, c₁₃ .pre)
+    omega (arith, c .column-place .ensures, c₁₃ .pre)
 
 closed-requires : tie.Need-closed-requires
 closed-requires c κs =
@@ -129,7 +131,7 @@ read-column-spec =
     read-requires-2
     enum-known-x-2
     enum-known-q2
-    column-at-requires
+    column-place-requires
     block-requires
     closed-requires
     returns
