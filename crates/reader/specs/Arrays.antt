@@ -1,4 +1,5 @@
 -- What stands at each place of the flat arrays.
+--   filled-length            how long an array of one value is
 --   list-at, shifts-at, columns-at, entries-at, lengths-at, evidence-at      each number at its place
 --   every-column, every-entry, every-length, every-constant                  what holds at every place
 use mathlib.Core.Path.{_≡_, refl, sym, ap, subst, _∙_}
@@ -56,8 +57,8 @@ module _ {E A : Type 0} (e : E) (value : A → E) (d : A) (blank : value d ≡ e
         let p : base + j ≡ base + (0 + j) * 1 + 0 = omega arith in
         ap (λ (x : ℕ). getD (pour put 0 st l) x e) p ∙ poured-at one-blocks 0 st l j tt (any l) tt (omega arith) (λ x hx. z x (omega arith))
 
--- A list of one value holds it everywhere, also past its end.
-pub filled-at : {E : Type 0} (n : ℕ) (e : E) (x : ℕ) → getD (filled n e) x e ≡ e
+-- An array of one value holds it everywhere, also past its end.
+filled-at : {E : Type 0} (n : ℕ) (e : E) (x : ℕ) → getD (filled n e) x e ≡ e
 unfolding filled
 filled-at n e x = go (decLt x n)
   where
@@ -172,7 +173,8 @@ put-lengths st i row = pour (put-length i) 0 st row
 abbrev put-coefficients : ℕ → List ℕ → ℕ → List ℕ → List ℕ
 put-coefficients i st j l = run-into (entry-place i j 0) st l
 
-pub entries-parts : (st : List ℕ × List ℕ) (P : List (List (List ℕ)))
+-- What is stored of P: the lengths, and the coefficients as tables.
+entries-parts : (st : List ℕ × List ℕ) (P : List (List (List ℕ)))
     → entries-into st P ≡ (pour put-lengths 0 (st .0) P, pour (put-table most-rows most-length) 0 (st .1) P)
 entries-parts st P =
     pour-same row-into (λ st i row. (put-lengths (st .0) i row, put-table most-rows most-length (st .1) i row)) 0 st P

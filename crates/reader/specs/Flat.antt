@@ -1,9 +1,11 @@
 -- Where the values stand in the flat arrays: how each is put into what is there.
 --   filled                   an array of one value
+--   cells, coefficients, entry-cells     the entries of a matrix, and the coefficients of F and of P: at most so many
 --   list-into, shifts-into   one value after the other, from the front
---   run-into, block-into     numbers one after the other from a place on, and rows of them, each a stride after the one before
---   columns-into             F: column by column, in it row by row, in it lowest power first
---   entries-into             P: the entries' lengths and their coefficients, row by row
+--   put-from, run-into       numbers one after the other from a place on, …
+--   put-row, block-into      … and rows of them, each a stride after the one before
+--   put-column, columns-into         F: column by column, in it row by row, in it lowest power first
+--   put-entry, row-into, entries-into        P: the entries' lengths and their coefficients, row by row
 --   evidence-into            C, row by row
 --   body-into, answer-into   all that follows a problem's `PR` record, and all of an answer
 --   row-next, row-fits       where a row's room ends

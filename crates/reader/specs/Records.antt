@@ -2,25 +2,25 @@
 --   closing, closed-into     the end of a record
 --   stored-forward           where a reader that stored what it read left the reading
 --   list-numbered            the record's number after a list of fields
+--   marked                   the mark of a record
 --   refuses, gives           one field, in the code's answer
 --   record-refused, record-given, then-refused, then-given, refused-into      a record by its next field
 --   field-number             one field is of one record
 --   sizes-reader             the last two fields of the `PR` record
 --   count-reader, sound-counts, length-field, PE-after-mark      the fields of the `PE` record before its coefficients
---   sound-row                a row of numbers below p
 --   beside                   numbers stored beside their count
 use mathlib.Core.Path.{_≡_, refl, sym, ap, fun-ext, _∙_}
 use mathlib.Core.Bool.{Bool, cond}
 use mathlib.Core.List.{List}
-use Prim.Native.Nat.{ℕ, _*_, _≤_, _<_}
+use Prim.Native.Nat.{ℕ, _≤_, _<_}
 use native.Mathlib.Omega.{arith}
 use lib.Dec.{leb}
 use lib.ListN.{length}
 use Rattle.rules.specs.Sizes.{most-rows, most-length}
 use Rattle.rules.specs.Reader.{Place, Refusal, Result, refused, got, Reader, next, _>>=_, give, field, mark, unless, each}
-use Rattle.rules.specs.Files.{PE-mark, PE, one-to, residue, due, coefficient-test}
-use Rattle.rules.specs.ReaderLaws.{opening, closed, field-got, Forward, Sound, Listed, sound-weaken, sound-next, sound-each}
-use Rattle.rules.specs.Soundness.{sound-due, sound-count, sound-residue}
+use Rattle.rules.specs.Files.{PE-mark, PE, one-to, due, coefficient-test}
+use Rattle.rules.specs.ReaderLaws.{opening, closed, field-got, Forward, Sound, sound-next, sound-each}
+use Rattle.rules.specs.Soundness.{sound-due, sound-count}
 use Rattle.place.specs.declared.Place.{Place as Spot}
 use Rattle.place.specs.declared.Stop.{Stop}
 use Rattle.place.specs.declared.Field.{Field}
@@ -60,6 +60,10 @@ pub list-numbered : {A B : Type 0} {Q : ℕ → A → Type 0} {k : ℕ} (d : A) 
     → going g b ≡ into h (each n f s p) → ((i : ℕ) → Sound k 0 (Q i) (f i)) → p .number < 65_535 → Numbered g
 list-numbered d b h n f s p (On q) gave sound le = omega (arith, stored-forward (sound-each d n f sound) h s p (sym gave) .number)
 list-numbered d b h n f s p (Off x) gave sound le = tt
+
+-- A mark that was read at the place of a record's first byte.
+pub marked : (v : ℕ) (s : List ℕ) {o q : Spot} {x : Result ℕ} → o ≡ q → x ≡ mark v s (place o) → x ≡ mark v s (place q)
+marked v s e gave = gave ∙ ap (λ (o : Spot). mark v s (place o)) e
 
 -- A field that is refused, or given, in the code's answer.
 module _ {r : Field} {m : Result ℕ} (gave : taken r ≡ m) where
@@ -103,10 +107,6 @@ field-number k test s p {v = v} {q = q} gave e =
 -- The fields m and n of the `PR` record.
 unfoldable pub sizes-reader : ℕ → Reader (ℕ × ℕ × ℕ)
 sizes-reader p = λ s q. closing ((field 1 (unless 3 (one-to most-rows)) >>= λ m. field 1 (unless 3 (one-to most-rows)) >>= λ n. give (p, m, n)) s q)
-
--- No record passes in a row of coefficients.
-pub sound-row : (p n : ℕ) → Sound (n * 4) 0 (Listed n 0 (λ k c. c < p)) (each n (λ k. field 4 (residue p)))
-sound-row p n = sound-weaken (omega arith) (omega arith) (λ l h. h) (sound-each 0 n (λ k. field 4 (residue p)) (λ k. sound-residue p))
 
 -- The numbers of the `PE` record: row, column, count.
 unfoldable pub count-reader : ℕ → ℕ → Reader ℕ

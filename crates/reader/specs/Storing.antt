@@ -1,9 +1,10 @@
 -- Reading into room that the caller lends: what a reader of the rules gives is stored, and a loop over readers stores as it goes.
---   into                     a result with its value stored
+--   into                     a result with its value stored: into-got, into-refused, into-end
 --   pour                     the members of a list stored one after the other
 --   rest                     a loop's work from its i-th reader on: what is still to be read, stored into what the room holds by then
 --   Kept                     a loop's invariant: the rest of the work is the whole work
---   stopped, went-on, ended  a turn that is refused, one that is not, and the loop's end: the whole is the rules' `each`, stored
+--   began, stopped, went-on, ended       the loop's start, a turn that is refused, one that is not, and its end: the whole is the rules' `each`, stored
+--   file-end                 a file whose last record has been stored
 --   field-off, field-on, going-off, going-on      what a callee gave, as a turn's result
 use mathlib.Core.Path.{_≡_, refl, sym, ap, _∙_, fun-ext}
 use mathlib.Core.Bool.{Bool, true, false, cond}

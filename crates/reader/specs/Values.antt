@@ -1,10 +1,12 @@
 -- What the rules read, as the code's structs.
 --   problem-value            a problem that was read or refused, as the code's `Problem`
+--   refusal-value, no-refusal        a refusal's numbers, and none
 --   begun-off, begun-on, with-arrays         a problem without its arrays, and with them
---   answer-of                the answer to a problem with p, m and n, with its `CE` record or without
+--   answer-of                the answer to a problem with p, m and n, with its `CE` record or without: only, without-evidence
 --   answer-value             an answer that was read or refused, as the code's `Answer`
 --   with-entries             an answer without its arrays, and with them
---   body-reader, answer-parts        the problem after its `PR` record, and the answer, in parts: head-refused, head-given, answer-given
+--   body-reader, problem-of, head-refused, head-given        a problem is its `PR` record and what follows
+--   answer-parts, answer-from, answer-given, answer-parts-refused        an answer is its parts
 --   answer-of-refused        a refusal's offsets fit 32 bits
 use mathlib.Core.Path.{_≡_, refl, sym, _∙_}
 use mathlib.Core.Bool.{Bool, true, false}

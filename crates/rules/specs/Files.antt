@@ -1,7 +1,8 @@
 -- Document 01, "The two files": the layout, a reader for each record.
+--   no-divisor, is-prime, two's-complement       prime, and the number that two bytes of a shift stand for
 --   allowed-prime, one-to, due, residue, shift-in-size, coefficient-test      the fields' own tests
 --   PR-mark, OR-mark, SH-mark, FC-mark, PE-mark, CE-mark       the records' marks, as numbers
---   PR, OR, SH, FC, PE, CE   the records
+--   PR, OR, SH, FC, PE, CE   the records; entries-reader      all of `PE`
 --   problem-reader, answer-reader, basis-reader      the files: a problem, an answer, an answer that ends after the last `PE`
 --   read-problem, read-both  the problem's file, and both files, one after the other
 --   read-claim, read-basis   a problem and an answer to it, and a problem and an answer without evidence

@@ -2,8 +2,9 @@
 -- A field that isn't wholly there is refusal 1; then the field's own test is made; then the next field."
 --   Place                    where the reading stands: file, record, the record's first byte, the next field's first byte
 --   Refusal                  code, file, record, at, and the first byte of the record named
---   Reader A                 reads an A from a file at a place, or refuses
---   field, mark, each, inside, end      what the files' readers are made of
+--   Result A, Reader A       an A that was read, or a refusal; and what reads it from a file at a place
+--   next, _>>=_, _>>_, give  readers one after the other
+--   number-at, field, unless, mark, each, inside, end, front     what the files' readers are made of
 use mathlib.Core.Bool.{Bool, cond}
 use mathlib.Core.List.{List, [], _∷_}
 use Prim.Native.Nat.{ℕ, zero, suc, _+_, _*_}

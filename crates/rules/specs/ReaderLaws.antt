@@ -1,8 +1,10 @@
 -- Laws of the parts that the files' readers are made of.
 --   next-got, next-refused   a reading in two steps: what each step did
 --   next-next-got, next-next-refused   two readings whose results are put together
+--   next-cong                what comes after a reading matters only at what it gave
 --   field-passed, field-short, field-failed, field-cases, field-got      what a field gives, and how it is refused
 --   end-passed, end-failed, end-cases, end-got           the same of a file's end
+--   moved, opening, closed   the place after a field, at a record's start, after its end
 --   Forward, Refusing        where a reading ends, or is refused
 --   Listed n d Q l           l has n members, of which the one with the number i is in Q i
 --   Sound k c Q m            m moves over k bytes and c records at most, gives what is in Q, and looks no further than it may move

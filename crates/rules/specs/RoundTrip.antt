@@ -1,9 +1,9 @@
 -- The layout of document 01 is unambiguous: what is written is read, and what is read is what is written.
 --   Reads x m a l            the reader m reads a from the bytes l, whatever stands before them, with x behind them
---   read-written-problem, read-written-answer, read-written-basis      the writers' files are read as what was written
+--   read-written-problem, read-written-answer, read-written-basis, read-written-claim      the writers' files are read as what was written
 --   Writes m W               what the reader m reads from a file of bytes stands in W to the bytes that it was read from
 --   written-problem, written-answer, written-basis       a file that is read is the one that is written
---   layout-unambiguous       two pairs of files that are read as the same claim are the same
+--   layout-unambiguous, basis-layout-unambiguous         two pairs of files that are read as the same claim or basis are the same
 use mathlib.Core.Path.{_≡_, refl, sym, ap, ap₂, subst, _∙_}
 use mathlib.Core.Logic.{_≢_}
 use mathlib.Core.Bool.{Bool}
@@ -105,8 +105,8 @@ reads-unless x k code holds v some small t = reads-field x k (unless code holds)
 reads-exactly : (x : List ℕ) (k code v : ℕ) → 0 < code → v < 256 ^ k → Reads x (field k (unless code (λ w. eqb w v))) v (bytes k v)
 reads-exactly x k code v some small = reads-unless x k code (λ w. eqb w v) v some small (eqb-refl v)
 
-reads-mark : (x : List ℕ) (due : ℕ) → due < 65_536 → Reads x (mark due) due (bytes 2 due)
-reads-mark x due small = reads-exactly x 2 2 due (omega arith) small
+reads-mark : (x : List ℕ) (v : ℕ) → v < 65_536 → Reads x (mark v) v (bytes 2 v)
+reads-mark x v small = reads-exactly x 2 2 v (omega arith) small
 
 reads-each : {A : Type 0} (d : A) (x : List ℕ) (f : ℕ → Reader A) (w : ℕ → A → List ℕ) (i₀ : ℕ) (l : List A)
     → ((i : ℕ) → i < length l → (x : List ℕ) → Reads x (f i) (getD l i d) (w (i₀ + i) (getD l i d))) → Reads x (each (length l) f) l (write-each w i₀ l)
@@ -321,8 +321,8 @@ writes-exactly k code v some =
     writes-weaken (λ w l (e, small, passed). e ∙ ap (bytes k) (eqb→eq w v (unless-iff code (eqb w v) some .0 passed)))
     (writes-field k (unless code (λ w. eqb w v)))
 
-writes-mark : (due : ℕ) → Writes (mark due) (λ w l. l ≡ bytes 2 due)
-writes-mark due = writes-exactly 2 2 due (omega arith)
+writes-mark : (v : ℕ) → Writes (mark v) (λ w l. l ≡ bytes 2 v)
+writes-mark v = writes-exactly 2 2 v (omega arith)
 
 writes-list : {A : Type 0} (w : ℕ → A → List ℕ) (n : ℕ) (f : ℕ → Reader A) → ((i : ℕ) → Writes (f i) (λ a l. l ≡ w i a))
     → Writes (each n f) (λ c l. l ≡ write-each w 0 c)

@@ -1,8 +1,9 @@
 -- Each reader of `Files` is sound: how far it moves at most, what holds of what it gives, how it refuses, how far it looks.
 --   longest-FC, longest-problem, longest-PE, longest-basis, longest-answer       the most bytes that the readers move over
 --   sound-size, sound-due, sound-shift, sound-residue, sound-count, sound-coefficient    the fields
---   InSize, sound-PR, sound-OR, sound-SH, sound-FC       a problem's records
---   Entry, Entries, Rows, sound-PE, sound-entries, sound-CE      an answer's records
+--   Row, Rows, sound-row     rows of numbers below p
+--   InSize, sound-PR, sound-OR, sound-SH, sound-FC       a problem's records, and what they give
+--   Entry, Entries, sound-PE, sound-entries      an answer's entries, and what they give
 --   listed-all               what holds of every member of a list and of its default holds of everything that is looked up
 --   sound-basis-sized, sound-answer-sized        an answer to a problem whose m and n are in size, whatever its p
 --   sound-problem, sound-basis, sound-answer     the three files' readers
@@ -59,10 +60,10 @@ sound-unless k code holds least most =
     (sound-field k (unless code holds) (λ v. cond-cases (holds v) 0 code (λ c. c ≤ 8) (λ t. omega arith) (λ t. most)))
 
 -- A mark.
-sound-mark : (due : ℕ) → Sound 2 0 (λ v. T (eqb v due)) (mark due)
-sound-mark due = sound-unless 2 2 (λ v. eqb v due) (omega arith) (omega arith)
+sound-mark : (a : ℕ) → Sound 2 0 (λ v. T (eqb v a)) (mark a)
+sound-mark a = sound-unless 2 2 (λ v. eqb v a) (omega arith) (omega arith)
 
--- A number of rows, of columns or of coefficients, …
+-- A number of rows or of columns, or an order, …
 pub sound-size : (most : ℕ) → Sound 1 0 (λ v. (1 ≤ v) × (v ≤ most)) (field 1 (unless 3 (one-to most)))
 sound-size most =
     sound-weaken (le-refl 1) (le-refl 0) (λ v. one-to-iff most v .0) (sound-unless 1 3 (one-to most) (omega arith) (omega arith))
@@ -78,6 +79,20 @@ sound-shift = sound-next (sound-unless 2 3 shift-in-size (omega arith) (omega ar
 -- … and a coefficient or a number of `CE`.
 pub sound-residue : (p : ℕ) → Sound 4 0 (λ v. v < p) (field 4 (residue p))
 sound-residue p = sound-weaken (le-refl 4) (le-refl 0) (λ v h. ltb→lt v p h) (sound-unless 4 6 (λ v. ltb v p) (omega arith) (omega arith))
+
+-- A row of n of them, …
+abbrev pub Row : (p n : ℕ) → List ℕ → Type 0
+Row p n = Listed n 0 (λ j c. c < p)
+
+pub sound-row : (p n : ℕ) → Sound (n * 4) 0 (Row p n) (each n (λ j. field 4 (residue p)))
+sound-row p n = sound-weaken (le-refl _) (omega arith) (λ l h. h) (sound-each 0 n (λ j. field 4 (residue p)) (λ j. sound-residue p))
+
+-- … and m rows.
+abbrev pub Rows : (p m n : ℕ) → List (List ℕ) → Type 0
+Rows p m n = Listed m [] (λ i. Row p n)
+
+sound-rows : (p m n : ℕ) → Sound (m * (n * 4)) (m * 0) (Rows p m n) (each m (λ i. each n (λ j. field 4 (residue p))))
+sound-rows p m n = sound-each [] m (λ i. each n (λ j. field 4 (residue p))) (λ i. sound-row p n)
 
 -- What the record `PR` gives.
 pub record InSize (t : ℕ × ℕ × ℕ) : Type 0 where
@@ -120,13 +135,6 @@ unfolding SH
 sound-SH m = sound-weaken (omega arith) (omega arith) (λ l h. h) (sound-inside (
     sound-next (sound-mark SH-mark) (λ v hv.
     sound-each (pos 0) m (λ i. field 2 (unless 3 shift-in-size) >>= λ v. give (two's-complement v)) (λ i. sound-shift))))
-
--- m rows of n numbers below p.
-abbrev pub Rows : (p m n : ℕ) → List (List ℕ) → Type 0
-Rows p m n = Listed m [] (λ i. Listed n 0 (λ j c. c < p))
-
-sound-rows : (p m n : ℕ) → Sound (m * (n * 4)) (m * (n * 0)) (Rows p m n) (each m (λ i. each n (λ j. field 4 (residue p))))
-sound-rows p m n = sound-each [] m (λ i. each n (λ j. field 4 (residue p))) (λ i. sound-each 0 n (λ j. field 4 (residue p)) (λ j. sound-residue p))
 
 -- … and `FC`.
 pub sound-FC : (p m d j : ℕ) → m ≤ most-rows → d ≤ most-order → Sound longest-FC 1 (Rows p m d) (FC p m d j)
@@ -222,7 +230,7 @@ sound-entries p m hm =
     (sound-each [] m (λ i. each m (λ j. PE p i j)) (λ i. sound-each [] m (λ j. PE p i j) (sound-PE p i)))
 
 -- … and `CE`.
-pub sound-CE : (p m n : ℕ) → m ≤ most-rows → n ≤ most-rows → Sound (evidence-bytes most-rows most-rows) 1 (Rows p m n) (CE p m n)
+sound-CE : (p m n : ℕ) → m ≤ most-rows → n ≤ most-rows → Sound (evidence-bytes most-rows most-rows) 1 (Rows p m n) (CE p m n)
 unfolding CE
 sound-CE p m n hm hn = sound-weaken (omega (arith, mul-le-mul hm hn)) (omega arith) (λ l h. h) (sound-inside (
     sound-next (sound-mark CE-mark) (λ v hv.

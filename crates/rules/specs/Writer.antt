@@ -1,5 +1,6 @@
 -- The two files as they are written: what the readers of `Files` read, the same records in the same order.
---   bytes k v                a number as k bytes
+--   bytes k v                a number as k bytes; unsigned    a shift as the number of its two bytes
+--   write-each, write-all    a list, member by member
 --   write-PR, write-OR, write-SH, write-FC, write-PE, write-CE      the records
 --   write-problem, write-answer, write-basis     the files
 use mathlib.Core.List.{List, [], _∷_, _++_}

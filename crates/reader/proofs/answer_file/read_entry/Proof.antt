@@ -6,14 +6,14 @@ use native.Mathlib.Omega.{arith}
 use lib.ListN.{set}
 use borrow.Author.Needs.{needs}
 use Rattle.rules.specs.Sizes.{most-rows, most-length}
-use Rattle.rules.specs.Reader.{each, Place, mark, field}
+use Rattle.rules.specs.Reader.{each, mark, field}
 use Rattle.rules.specs.Files.{PE-mark, PE, coefficient-test}
 use Rattle.rules.specs.ReaderLaws.{opening, sound-each}
 use Rattle.rules.specs.Soundness.{sound-coefficient}
 use Rattle.layout.specs.Flat.{square-place, entry-place}
 use Rattle.reader.specs.Flat.{put-entry, run-into, cells, entry-cells}
 use Rattle.reader.specs.Storing.{into}
-use Rattle.reader.specs.Records.{closed-into, list-numbered, refuses, gives, record-refused, record-given, refused-into, field-number, sound-counts, PE-after-mark, beside}
+use Rattle.reader.specs.Records.{marked, closed-into, list-numbered, refuses, gives, record-refused, record-given, refused-into, field-number, sound-counts, PE-after-mark, beside}
 use Rattle.place.specs.Places.{place, taken, going}
 use Rattle.reader.proofs.answer_file.read_entry.Statement.{statement}
 use Rattle.reader.proofs.answer_file.read_entry.Tie as tie
@@ -27,10 +27,7 @@ read-requires c κs = search needs
 -- The mark, at the record's first byte.
 mark-read : (c : tie.After-read) → let args = c .before .before .before .before .before .args in
     taken (c .read .result) ≡ mark PE-mark (args .s .now) (opening (place (args .q)))
-mark-read c =
-    let c₅ = c .before .before .before .before .before in
-    c .read .ensures
-    ∙ ap (λ (p : Place). mark PE-mark (c₅ .args .s .now) p) (ap place (c .before .opened .ensures))
+mark-read c = marked PE-mark _ (c .before .opened .ensures) (c .read .ensures)
 
 enum-known-x : tie.Need-enum-known-x
 enum-known-x c = search needs

@@ -5,13 +5,14 @@ use Prim.Native.Nat.{ℕ}
 use native.Mathlib.Omega.{arith}
 use borrow.Author.Needs.{needs}
 use Rattle.rules.specs.Sizes.{most-rows, most-order}
-use Rattle.rules.specs.Reader.{each, Place, mark, field}
+use Rattle.rules.specs.Reader.{each, mark, field}
 use Rattle.rules.specs.Files.{FC-mark, FC, due, residue}
 use Rattle.rules.specs.ReaderLaws.{opening}
+use Rattle.rules.specs.Soundness.{sound-row}
 use Rattle.layout.specs.Flat.{column-place}
 use Rattle.reader.specs.Flat.{put-column, block-into, cells, coefficients}
 use Rattle.reader.specs.Storing.{into}
-use Rattle.reader.specs.Records.{closed-into, list-numbered, refuses, gives, record-refused, record-given, refused-into, field-number, sound-row}
+use Rattle.reader.specs.Records.{marked, closed-into, list-numbered, refuses, gives, record-refused, record-given, refused-into, field-number}
 use Rattle.place.specs.Places.{place, taken, going}
 use Rattle.reader.proofs.problem_file.read_column.Statement.{statement}
 use Rattle.reader.proofs.problem_file.read_column.Tie as tie
@@ -25,9 +26,7 @@ read-requires c κs = search needs
 -- The mark, at the record's first byte.
 mark-read : (c : tie.After-read) → let args = c .before .before .before .before .args in
     taken (c .read .result) ≡ mark FC-mark (args .s .now) (opening (place (args .q)))
-mark-read c =
-    c .read .ensures
-    ∙ ap (λ (p : Place). mark FC-mark (c .before .before .before .before .args .s .now) p) (ap place (c .before .opened .ensures))
+mark-read c = marked FC-mark _ (c .before .opened .ensures) (c .read .ensures)
 
 enum-known-x : tie.Need-enum-known-x
 enum-known-x c = search needs

@@ -1,11 +1,11 @@
 -- `reader::problem_file::read_head` meets its contract. Assumes nothing.
-use mathlib.Core.Path.{_≡_, sym, ap, _∙_}
+use mathlib.Core.Path.{_≡_, sym, _∙_}
 use native.Mathlib.Omega.{arith}
 use borrow.Author.Needs.{needs}
-use Rattle.rules.specs.Reader.{Place, mark, field, unless}
+use Rattle.rules.specs.Reader.{mark, field, unless}
 use Rattle.rules.specs.Files.{PR-mark, PR, allowed-prime}
 use Rattle.rules.specs.ReaderLaws.{opening}
-use Rattle.reader.specs.Records.{sizes-reader, refuses, gives, record-refused, record-given, field-number}
+use Rattle.reader.specs.Records.{marked, sizes-reader, refuses, gives, record-refused, record-given, field-number}
 use Rattle.place.specs.Places.{place, taken}
 use Rattle.reader.proofs.problem_file.read_head.Statement.{statement}
 use Rattle.reader.proofs.problem_file.read_head.Tie as tie
@@ -19,9 +19,7 @@ read-requires c κs = search needs
 -- The mark, at the record's first byte.
 mark-read : (c : tie.After-read) → let args = c .before .before .before .args in
     taken (c .read .result) ≡ mark PR-mark (args .s .now) (opening (place (args .q)))
-mark-read c =
-    c .read .ensures
-    ∙ ap (λ (p : Place). mark PR-mark (c .before .before .before .args .s .now) p) (ap place (c .before .opened .ensures))
+mark-read c = marked PR-mark _ (c .before .opened .ensures) (c .read .ensures)
 
 enum-known-x : tie.Need-enum-known-x
 enum-known-x c = search needs

@@ -3,13 +3,13 @@ use mathlib.Core.Path.{_≡_, sym, ap, _∙_}
 use native.Mathlib.Omega.{arith}
 use borrow.Author.Needs.{needs}
 use Rattle.rules.specs.Sizes.{most-order}
-use Rattle.rules.specs.Reader.{Place, mark}
+use Rattle.rules.specs.Reader.{mark}
 use Rattle.rules.specs.Files.{OR-mark, OR}
 use Rattle.rules.specs.ReaderLaws.{opening}
 use Rattle.rules.specs.Soundness.{sound-size}
 use Rattle.reader.specs.Flat.{list-into}
 use Rattle.reader.specs.Storing.{into}
-use Rattle.reader.specs.Records.{closed-into, list-numbered, refuses, gives, record-refused, record-given, refused-into, field-number}
+use Rattle.reader.specs.Records.{marked, closed-into, list-numbered, refuses, gives, record-refused, record-given, refused-into, field-number}
 use Rattle.place.specs.Places.{place, taken}
 use Rattle.reader.proofs.problem_file.read_orders.Statement.{statement}
 use Rattle.reader.proofs.problem_file.read_orders.Tie as tie
@@ -23,9 +23,7 @@ read-requires c κs = search needs
 -- The mark, at the record's first byte.
 mark-read : (c : tie.After-read) → let args = c .before .before .before .before .args in
     taken (c .read .result) ≡ mark OR-mark (args .s .now) (opening (place (args .q)))
-mark-read c =
-    c .read .ensures
-    ∙ ap (λ (p : Place). mark OR-mark (c .before .before .before .before .args .s .now) p) (ap place (c .before .opened .ensures))
+mark-read c = marked OR-mark _ (c .before .opened .ensures) (c .read .ensures)
 
 enum-known-x : tie.Need-enum-known-x
 enum-known-x c = search needs
