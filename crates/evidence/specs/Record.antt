@@ -1,9 +1,8 @@
 -- The `CE` record over the flat arrays, and how it grows number by number.
---   mark-bytes, row-numbers, flat-evidence         what it is made of
---   table-last, write-table  a list, and what is written of it, with one member more
---   RowPut, row-start, row-more, row-done          the numbers of a row, put one after the other
---   RowsPut, rows-start, rows-more, record-done    the rows, put one after the other, and the whole record
---   rows-fit                 one row more is still within the record
+--   row-numbers, flat-evidence       the numbers of a row, and of all rows
+--   table-last, write-table          a table, and what is written of it, grow by their last member
+--   RowPut, row-start, row-more, row-done        the first numbers of a row are put: none, one more, all
+--   RowsPut, rows-start, rows-more, record-done, rows-fit        the first rows are put: none, one more, all
 use mathlib.Core.Path.{_≡_, refl, sym, ap, ap₂, subst, _∙_}
 use mathlib.Core.List.{List, [], _∷_, _++_, append-nil, append-assoc}
 use Prim.Native.Nat.{ℕ, zero, suc, _+_, _*_, _≤_, _<_, zero-le}

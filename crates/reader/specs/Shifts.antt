@@ -1,5 +1,4 @@
 -- One shift of the `SH` record, as the code reads it.
---   shift-reader             a field of two bytes, and its two's complement
 --   shift-off, shift-on      what reading it gives, stored
 --   two-bytes                the number of two bytes
 use mathlib.Core.Path.{_≡_, sym, ap, _∙_}
@@ -7,8 +6,8 @@ use mathlib.Core.List.{List}
 use Prim.Native.Nat.{ℕ, _<_}
 use native.Mathlib.Omega.{arith}
 use lib.IntN.{ℤ}
-use Rattle.rules.specs.Reader.{Place, Result, refused, got, Reader, next, _>>=_, give, field, unless}
-use Rattle.rules.specs.Files.{shift-in-size, two's-complement}
+use Rattle.rules.specs.Reader.{Place, Result, refused, got, next, field, unless}
+use Rattle.rules.specs.Files.{shift-in-size, two's-complement, shift-reader}
 use Rattle.rules.specs.ReaderLaws.{field-got}
 use Rattle.rules.specs.ByteNumbers.{AllBytes, number-at-below}
 use Rattle.place.specs.declared.Place.{Place as Spot}
@@ -17,9 +16,6 @@ use Rattle.place.specs.declared.Field.{Field}
 use Rattle.place.specs.declared.Field.the-variants.{Value, Off}
 use Rattle.place.specs.Places.{place, refusal, taken}
 use Rattle.reader.specs.Storing.{into}
-
-abbrev pub shift-reader : Reader ℤ
-shift-reader = field 2 (unless 3 shift-in-size) >>= λ v. give (two's-complement v)
 
 module _ {B : Type 0} (g : ℤ → B) (s : List ℕ) (p : Place) {r : Field} (gave : taken r ≡ field 2 (unless 3 shift-in-size) s p) where
   pub shift-off : {x : Stop} → r ≡ Off x → into g (shift-reader s p) ≡ refused (refusal x)

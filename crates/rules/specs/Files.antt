@@ -2,7 +2,7 @@
 --   no-divisor, is-prime, two's-complement       prime, and the number that two bytes of a shift stand for
 --   allowed-prime, one-to, due, residue, shift-in-size, coefficient-test      the fields' own tests
 --   PR-mark, OR-mark, SH-mark, FC-mark, PE-mark, CE-mark       the records' marks, as numbers
---   PR, OR, SH, FC, PE, CE   the records; entries-reader      all of `PE`
+--   PR, OR, SH, FC, PE, CE   the records; shift-reader        one shift; entries-reader       all the entries
 --   problem-reader, answer-reader, basis-reader      the files: a problem, an answer, an answer that ends after the last `PE`
 --   read-problem, read-both  the problem's file, and both files, one after the other
 --   read-claim, read-basis   a problem and an answer to it, and a problem and an answer without evidence
@@ -88,13 +88,17 @@ OR n = inside do
   mark OR-mark
   each n (λ j. field 1 (unless 3 (one-to most-order)))
 
+-- A shift.
+abbrev pub shift-reader : Reader ℤ
+shift-reader = do
+  v ← field 2 (unless 3 shift-in-size)
+  give (two's-complement v)
+
 -- "`SH` (53 48): m shifts, two bytes each, two's complement."
 unfoldable pub SH : ℕ → Reader (List ℤ)
 SH m = inside do
   mark SH-mark
-  each m λ i. do
-    v ← field 2 (unless 3 shift-in-size)
-    give (two's-complement v)
+  each m (λ i. shift-reader)
 
 -- "`FC` (46 43), n records: column number j from 0 in one byte; then for each row exactly d_j coefficients of four bytes, lowest power first."
 unfoldable pub FC : (p m d j : ℕ) → Reader (List (List ℕ))

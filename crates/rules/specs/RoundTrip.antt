@@ -21,7 +21,7 @@ use Rattle.rules.specs.Reader.{Place, got, Reader, next, _>>=_, give, nu
 use Rattle.rules.specs.Sizes.{largest-prime, most-rows, most-order, most-shift, most-length}
 use Rattle.rules.specs.Files.{PR-mark, OR-mark, SH-mark, FC-mark, PE-mark, CE-mark}
 use Rattle.rules.specs.Files.{PR, OR, SH, FC, PE, CE, problem-reader, coefficient-test, entries-reader, answer-reader, basis-reader, read-problem}
-use Rattle.rules.specs.Files.{claim-of, read-claim, read-basis, allowed-prime, one-to, residue, due, two's-complement, shift-in-size}
+use Rattle.rules.specs.Files.{claim-of, read-claim, read-basis, allowed-prime, one-to, residue, due, two's-complement, shift-in-size, shift-reader}
 use Rattle.rules.specs.Valid.{ValidProblem, ValidBasis, ValidAnswer, Valid}
 use Rattle.rules.specs.Matrices.{order, at}
 use Rattle.rules.specs.Writer.{bytes, write-each, write-all, unsigned, write-PR, write-OR, write-SH, write-FC, write-PE, write-CE, write-problem}
@@ -150,7 +150,7 @@ reads-SH x m shifts size most = reads-inside (
     reads-list (pos 0) x m _ (λ i z. bytes 2 (unsigned z)) shifts size (λ i h x. one (getD shifts i (pos 0)) (most i) x)))
   where
     one : (z : ℤ) → natAbs z ≤ most-shift → (x : List ℕ)
-        → Reads x (field 2 (unless 3 shift-in-size) >>= λ v. give (two's-complement v)) z (bytes 2 (unsigned z))
+        → Reads x shift-reader z (bytes 2 (unsigned z))
     one z h x =
         let (back, small) = two's-complement-unsigned z h in
         reads-as (append-nil _)

@@ -23,9 +23,9 @@ use Rattle.algebra.specs.Prime.{Prime}
 use Rattle.rules.specs.Sizes.{largest-prime, most-rows, most-order, most-shift, most-length}
 use Rattle.rules.specs.RecordBytes.{head-bytes, column-bytes, entry-bytes, evidence-bytes}
 use Rattle.rules.specs.Claim.{Problem}
-use Rattle.rules.specs.Reader.{field, mark, unless, each, give, _>>=_}
+use Rattle.rules.specs.Reader.{field, mark, unless, each}
 use Rattle.rules.specs.Files.{PR, OR, SH, FC, PE, CE, problem-reader, coefficient-test, entries-reader, answer-reader, basis-reader, allowed-prime}
-use Rattle.rules.specs.Files.{PR-mark, OR-mark, SH-mark, FC-mark, PE-mark, CE-mark, one-to, due, residue, two's-complement, shift-in-size}
+use Rattle.rules.specs.Files.{PR-mark, OR-mark, SH-mark, FC-mark, PE-mark, CE-mark, one-to, due, residue, two's-complement, shift-in-size, shift-reader}
 use Rattle.rules.specs.Matrices.{at}
 use Rattle.rules.specs.Valid.{ValidProblem, ValidBasis, ValidAnswer}
 use Rattle.rules.specs.BoolLaws.{cond-cases}
@@ -73,7 +73,7 @@ pub sound-due : (i : ℕ) → Sound 1 0 (λ v. T (eqb v i)) (field 1 (due i))
 sound-due i = sound-unless 1 5 (λ v. eqb v i) (omega arith) (omega arith)
 
 -- … a shift, …
-pub sound-shift : Sound 2 0 (λ z. natAbs z ≤ most-shift) (field 2 (unless 3 shift-in-size) >>= λ v. give (two's-complement v))
+pub sound-shift : Sound 2 0 (λ z. natAbs z ≤ most-shift) shift-reader
 sound-shift = sound-next (sound-unless 2 3 shift-in-size (omega arith) (omega arith)) (λ v h. sound-give (two's-complement v) (leb→le _ _ h))
 
 -- … and a coefficient or a number of `CE`.
@@ -134,7 +134,7 @@ pub sound-SH : (m : ℕ) → Sound (2 + 2 * m) 1 (Listed m (pos 0) (λ i z. natA
 unfolding SH
 sound-SH m = sound-weaken (omega arith) (omega arith) (λ l h. h) (sound-inside (
     sound-next (sound-mark SH-mark) (λ v hv.
-    sound-each (pos 0) m (λ i. field 2 (unless 3 shift-in-size) >>= λ v. give (two's-complement v)) (λ i. sound-shift))))
+    sound-each (pos 0) m (λ i. shift-reader) (λ i. sound-shift))))
 
 -- … and `FC`.
 pub sound-FC : (p m d j : ℕ) → m ≤ most-rows → d ≤ most-order → Sound longest-FC 1 (Rows p m d) (FC p m d j)

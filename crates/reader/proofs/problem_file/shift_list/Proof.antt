@@ -7,8 +7,9 @@ use lib.ListN.{length, set, length-set}
 use mir.Facts.{toZ-ofZ}
 use mir.Syntax.{w32}
 use borrow.Author.Needs.{needs}
+use Rattle.rules.specs.Files.{shift-reader}
 use Rattle.reader.specs.Storing.{Kept, began, stopped, went-on, ended}
-use Rattle.reader.specs.Shifts.{shift-reader, shift-off, shift-on, two-bytes}
+use Rattle.reader.specs.Shifts.{shift-off, shift-on, two-bytes}
 use Rattle.place.specs.Places.{place, taken}
 use Rattle.reader.proofs.problem_file.shift_list.Statement.{statement}
 use Rattle.reader.proofs.problem_file.shift_list.Tie as tie
