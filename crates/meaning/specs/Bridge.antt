@@ -1,38 +1,32 @@
 -- From the numbers of `Plain` to the polynomials over K of the theory: sums and products of numbers modulo p are those of K, and lists
 -- of numbers stand for all polynomials.
---   red-sum, red-times, red-row-times-column      sums and products
+--   red-times, red-row-times-column               products
 --   poly-list, polynomial-poly-list               a list for each polynomial
-use mathlib.Core.Path.{_≡_, refl, sym, ap, subst, fun-ext, _∙_}
+use mathlib.Core.Path.{_≡_, sym, ap, subst, fun-ext, _∙_}
 use mathlib.Core.List.{List, []}
-use Prim.Native.Nat.{ℕ, zero, suc, _-_, _*_, _≤_, _<_}
+use Prim.Native.Nat.{ℕ, suc, _-_, _*_, _≤_, _<_}
 use native.Mathlib.Nat.{lt-of-not-le}
 use native.Mathlib.Decide.{decLe}
 use lib.ListN.{getD, List·getD-eq-default}
-use Rattle.algebra.specs.Residue.{K, red, red-add, red-mul, red-onto}
-use Rattle.algebra.specs.Sum.{sum, sum-cong}
+use Rattle.algebra.specs.Residue.{K, red, red-mul, red-onto}
+use Rattle.algebra.specs.Sum.{sum-cong}
 use Rattle.algebra.specs.Series.{Series, convolve, convolve-sum}
 use Rattle.algebra.specs.Polynomial.{Poly}
 use Rattle.algebra.specs.Matrix.{vmul}
 use Rattle.algebra.specs.Degree.{coefficient, coefficient-sum}
 use lib.IntN.{pos}
-use Rattle.rules.specs.Conditions.{sum-below}
 use Rattle.rules.specs.Matrices.{polynomial}
 use Rattle.rules.specs.Evidence.{table}
 use Rattle.rules.specs.EvidenceLaws.{length-table, getD-table}
+use Rattle.rules.specs.SumLaws.{red-sum}
 use Rattle.meaning.specs.Plain.{times, row-times-column}
 
 module _ (p : ℕ) where
-  -- The residue of a sum is the sum of the residues, …
-  pub red-sum : (n : ℕ) (f : ℕ → ℕ) → red p (sum-below n f) ≡ sum (K p) n (λ i. red p (f i))
-  unfolding sum-below sum
-  red-sum zero f = refl
-  red-sum (suc n) f = red-add p (f zero) (sum-below n (λ i. f (suc i))) ∙ ap (λ x. K p ._⊕_ (red p (f zero)) x) (red-sum n (λ i. f (suc i)))
-
-  -- … of a product of polynomials that of the product, …
+  -- The residue of a product of polynomials is that of the product, …
   pub red-times : (f g : List ℕ) (k : ℕ) → red p (times f g k) ≡ convolve (K p) (polynomial p f .series) (polynomial p g .series) k
   unfolding times
   red-times f g k =
-      red-sum (suc k) (λ i. getD f i 0 * getD g (k - i) 0)
+      red-sum p (suc k) (λ i. getD f i 0 * getD g (k - i) 0)
       ∙ sum-cong (K p) (suc k) (λ i. red p (getD f i 0 * getD g (k - i) 0)) (λ i. K p ._⊗_ (red p (getD f i 0)) (red p (getD g (k - i) 0)))
       (λ i b. red-mul p (getD f i 0) (getD g (k - i) 0))
       ∙ sym (convolve-sum (K p) (polynomial p f .series) (polynomial p g .series) k)
@@ -42,7 +36,7 @@ module _ (p : ℕ) where
       → red p (row-times-column m v (λ i. A i j) k) ≡ vmul (Series (K p)) m (λ i. polynomial p (v i) .series) (λ i j. polynomial p (A i j) .series) j k
   unfolding row-times-column vmul coefficient
   red-row-times-column m v A j k =
-      red-sum m (λ i. times (v i) (A i j) k)
+      red-sum p m (λ i. times (v i) (A i j) k)
       ∙ sum-cong (K p) m (λ i. red p (times (v i) (A i j) k)) (λ i. convolve (K p) (polynomial p (v i) .series) (polynomial p (A i j) .series) k)
       (λ i b. red-times (v i) (A i j) k)
       ∙ sym (coefficient-sum (K p) (pos k) m (λ i. convolve (K p) (polynomial p (v i) .series) (polynomial p (A i j) .series)))

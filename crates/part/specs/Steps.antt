@@ -33,7 +33,8 @@ use Rattle.rules.specs.RefusalPlaces.{claim-refused}
 use Rattle.rules.specs.VerdictLaws.{verdict-of-refusal, code-of-refusal, Judged, verdict-judged}
 use Rattle.rules.specs.PartLaws.{pointed-refused, pointed-claim, front-of-answer, pointed-front, refused-start, pointed-within}
 use Rattle.layout.specs.Holds.{Ordered}
-use Rattle.rules.specs.WriterLaws.{sum-below-cong, rectangle-most}
+use Rattle.rules.specs.SumLaws.{sum-below-cong}
+use Rattle.rules.specs.WriterLaws.{rectangle-most}
 use Rattle.reader.specs.declared.Problem.{Problem as ReadProblem}
 use Rattle.reader.specs.Arrays.{list-at}
 use Rattle.reader.specs.Values.{problem-value}

@@ -1,4 +1,3 @@
-pub mod Sums
 pub mod Total
 pub mod Product
 pub mod Search

@@ -21,8 +21,7 @@ use Rattle.algebra.specs.Matrix.{vmul, mmul}
 use Rattle.rules.specs.Conditions.{sum-below}
 use Rattle.rules.specs.Sizes.{largest-prime, most-rows, most-order, most-length}
 use Rattle.layout.specs.Flat.{entry-place, column-place, square-place, cell, column-cell, cells, column-cells, cell-at, column-cell-at, column-cell-past}
-use Rattle.rules.specs.WriterLaws.{sum-below-cong, sum-below-last}
-use Rattle.product.specs.Sums.{sum-window, red-sum}
+use Rattle.rules.specs.SumLaws.{sum-below-cong, sum-below-last, sum-window, red-sum}
 
 -- How many coefficients the flat arrays hold.
 unfoldable pub entry-coefficients : ℕ

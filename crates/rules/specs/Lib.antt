@@ -30,6 +30,7 @@ pub mod RefusalPlaces
 pub mod Packing
 pub mod RoundTrip
 pub mod Lengths
+pub mod SumLaws
 pub mod WriterLaws
 pub mod EvidenceLaws
 pub mod ReadLengths

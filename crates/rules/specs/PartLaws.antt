@@ -32,7 +32,8 @@ use Rattle.rules.specs.ByteNumbers.{AllBytes}
 use Rattle.rules.specs.Ranges.{problem-valid, answer-valid, claim-got}
 use Rattle.rules.specs.RefusalPlaces.{claim-refused}
 use Rattle.rules.specs.RoundTrip.{written-problem, written-answer}
-use Rattle.rules.specs.WriterLaws.{sum-below-cong, sum-below-within, length-write-each, drop-write-each, length-write-PR, length-write-OR}
+use Rattle.rules.specs.SumLaws.{sum-below-cong, sum-below-within}
+use Rattle.rules.specs.WriterLaws.{length-write-each, drop-write-each, length-write-PR, length-write-OR}
 use Rattle.rules.specs.WriterLaws.{length-write-SH, length-write-FC, length-write-CE}
 use Rattle.rules.specs.ReadLengths.{problem-length, answer-length}
 use Rattle.rules.specs.VerdictLaws.{verdict-of-claim, verdict-of-refusal, Judged, verdict-judged}

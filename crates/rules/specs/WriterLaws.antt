@@ -1,5 +1,4 @@
 -- How long what is written is, and where it stands.
---   sum-below-cong, sum-below-last, sum-below-constant, sum-below-within      sums of lengths
 --   rectangle-most           the bytes of the numbers of a rectangle: a larger one has no fewer
 --   length-write-each        what is written of a list's members is as long as they are together …
 --   drop-write-each          … and behind those before it stands what is written of a member
@@ -7,8 +6,7 @@
 use mathlib.Core.Path.{_≡_, refl, sym, ap, ap₂, _∙_}
 use mathlib.Core.List.{List, [], _∷_, _++_}
 use Prim.Native.Nat.{ℕ, zero, suc, _+_, _*_, _≤_, _<_}
-use native.Mathlib.Nat.{add-zero, add-comm, add-assoc, mul-assoc, mul-comm, mul-le-mul, mul-le-mul-left, not-suc-le-zero, le-of-suc-le-suc}
-use native.Mathlib.Numerals.{add-one}
+use native.Mathlib.Nat.{add-zero, mul-assoc, mul-comm, mul-le-mul, mul-le-mul-left, not-suc-le-zero, le-of-suc-le-suc}
 use native.Mathlib.Omega.{arith}
 use lib.IntN.{ℤ, pos}
 use lib.ListN.{length, getD, drop, length-append}
@@ -17,36 +15,7 @@ use Rattle.rules.specs.RecordBytes.{column-bytes, entry-bytes, evidence-
 use Rattle.rules.specs.Conditions.{sum-below}
 use Rattle.rules.specs.Writer.{bytes, write-each, write-all, unsigned, write-PR, write-OR, write-SH, write-FC, write-PE, write-CE}
 use Rattle.rules.specs.ByteNumbers.{length-bytes}
-
--- SUMS
-
--- A sum depends on its terms, …
-pub sum-below-cong : (n : ℕ) (f g : ℕ → ℕ) → ((i : ℕ) → i < n → f i ≡ g i) → sum-below n f ≡ sum-below n g
-unfolding sum-below
-sum-below-cong zero f g h = refl
-sum-below-cong (suc n) f g h = ap₂ _+_ (h 0 (omega arith)) (sum-below-cong n (λ i. f (suc i)) (λ i. g (suc i)) (λ i b. h (suc i) (omega arith)))
-
--- … its last term stands apart, …
-pub sum-below-last : (n : ℕ) (f : ℕ → ℕ) → sum-below (n + 1) f ≡ sum-below n f + f n
-unfolding sum-below
-sum-below-last zero f = add-comm (f zero) 0
-sum-below-last (suc n) f =
-    ap (λ k. sum-below k f) (add-one (suc n))
-    ∙ ap (λ x. f zero + x) (ap (λ k. sum-below k (λ i. f (suc i))) (sym (add-one n)) ∙ sum-below-last n (λ i. f (suc i)))
-    ∙ sym (add-assoc (f zero) (sum-below n (λ i. f (suc i))) (f (suc n)))
-
--- … of equal terms it is their number times each, …
-pub sum-below-constant : (n : ℕ) (f : ℕ → ℕ) (k : ℕ) → ((i : ℕ) → i < n → f i ≡ k) → sum-below n f ≡ n * k
-unfolding sum-below
-sum-below-constant zero f k h = omega arith
-sum-below-constant (suc n) f k h = omega (arith, h 0 (omega arith), sum-below-constant n (λ i. f (suc i)) k (λ i b. h (suc i) (omega arith)))
-
--- … and a term and those before it are within the sum.
-pub sum-below-within : (n : ℕ) (f : ℕ → ℕ) (j : ℕ) → j < n → sum-below j f + f j ≤ sum-below n f
-unfolding sum-below
-sum-below-within zero f j h = absurd (not-suc-le-zero h)
-sum-below-within (suc n) f zero h = omega arith
-sum-below-within (suc n) f (suc j) h = omega (arith, sum-below-within n (λ i. f (suc i)) j (le-of-suc-le-suc h))
+use Rattle.rules.specs.SumLaws.{sum-below-cong, sum-below-constant}
 
 -- Four bytes for each number of a rectangle: a larger one has no fewer.
 pub rectangle-most : {m n M N : ℕ} → m ≤ M → n ≤ N → 4 * m * n ≤ 4 * M * N
