@@ -14,14 +14,14 @@ use Rattle.algebra.specs.Series.{Series}
 use Rattle.algebra.specs.Det.{det}
 use Rattle.algebra.specs.Dependence.{Dependent}
 use Rattle.algebra.specs.OrderBasis.{Monomial}
-use Rattle.rules.specs.Conditions.{first-place}
+use Rattle.rules.specs.Conditions.{degree-sum-of, first-place}
 use Rattle.rules.specs.Verdict.{Verdict, passed, not-reduced, not-monomial, below-order, at-order, low-rank, natural, judge-claim}
 use Rattle.rules.specs.SearchLaws.{first-place-some}
 use Rattle.verdict.specs.Meant.{meant}
-use Rattle.layout.specs.Flat.{cells}
+use Rattle.layout.specs.Flat.{length-at, shift-at, cells}
 use Rattle.layout.specs.Settles.{Settles}
 use Rattle.matrix.specs.Fill.{array-of}
-use Rattle.matrix.specs.Degrees.{flat-degree-sum, leading-number}
+use Rattle.matrix.specs.Degrees.{leading-number}
 use Rattle.product.specs.Faults.{flat-fault, place-of}
 use Rattle.matrix.specs.Rank.{rank-number}
 use Rattle.product.specs.declared.fault.Place.{Place}
@@ -122,7 +122,7 @@ module _ (p m n : ℕ) (x : Arrays) where
         t .so-far os ss F P C held ∙ ap (λ k. first-applying k code c) one ∙ applying-later c (13 - code) code (sym (g os ss F P C held)) ∙ ap (λ k. first-applying k (code + 1) c) next;
   }
 
-  pub all-tried : (code : ℕ) (sum : ℤ) (d : ℕ) → 13 < code → Tried code → sum ≡ flat-degree-sum (x .lengths) (x .shifts) m → d ≡ natural sum → Judged judge-claim p m n x (passed d)
+  pub all-tried : (code : ℕ) (sum : ℤ) (d : ℕ) → 13 < code → Tried code → sum ≡ degree-sum-of m (length-at (x .lengths)) (shift-at (x .shifts)) → d ≡ natural sum → Judged judge-claim p m n x (passed d)
   unfolding first-applying
   all-tried code sum d h t es ed os ss F P C held =
       let c = claim p m n os ss F P C in

@@ -4,14 +4,13 @@
 --   Ready p m n x            the sizes of document 01, as the code asks for them
 use mathlib.Core.Path.{_≡_}
 use mathlib.Core.List.{List}
-use Prim.Native.Nat.{ℕ, _≤_, _<_}
+use Prim.Native.Nat.{ℕ, _≤_}
 use lib.IntN.{ℤ}
-use lib.ListN.{getD}
 use Rattle.algebra.specs.Prime.{Prime}
 use Rattle.rules.specs.Sizes.{most-rows}
 use Rattle.rules.specs.Claim.{Claim}
 use Rattle.rules.specs.Valid.{Valid}
-use Rattle.layout.specs.Holds.{Ordered, EntryCells, EntryLengths, ColumnCells, Orders, Shifts, Constants}
+use Rattle.layout.specs.Holds.{Each, Ordered, EntryCells, EntryLengths, ColumnCells, Orders, Shifts, Constants}
 use Rattle.matrix.specs.Degrees.{Sized}
 use Rattle.product.specs.Product.{Factors}
 
@@ -40,7 +39,7 @@ pub record Ready (p m n : ℕ) (x : Arrays) : Type 0 where
   pub factors : Factors p (x .entries) (x .lengths) (x .columns)
   pub sized : Sized (x .lengths) (x .shifts)
   pub ordered : Ordered (x .orders)
-  pub constants-below : (k : ℕ) → getD (x .constants) k 0 < p
+  pub constants-below : Each p (x .constants)
 
 abbrev pub arrays : List ℕ → List ℤ → List ℕ → List ℕ → List ℕ → List ℕ → Arrays
 arrays orders shifts columns lengths entries constants =

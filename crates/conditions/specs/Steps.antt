@@ -12,16 +12,16 @@ use Rattle.algebra.specs.OrderBasis.{Monomial}
 use Rattle.algebra.specs.PolyMatrix.{entries as series-entries}
 use Rattle.rules.specs.Claim.{Claim}
 use Rattle.rules.specs.Matrices.{matrix-P}
-use Rattle.rules.specs.Conditions.{leading-matrix, reduced, monomial-determinant, degree-sum, low-fault, order-fault, first-place, rank-matrix, rank-below}
+use Rattle.rules.specs.Conditions.{leading-matrix, reduced, monomial-determinant, degree-sum-of, degree-sum, low-fault, order-fault, first-place, rank-matrix, rank-below}
 use Rattle.rules.specs.BoolLaws.{false-iff}
 use Rattle.rules.specs.ReducedLaws.{reduced-iff}
 use Rattle.rules.specs.DeterminantLaws.{monomial-determinant-iff}
 use Rattle.rules.specs.ProductLaws.{rank-below-iff}
-use Rattle.layout.specs.Flat.{cells}
+use Rattle.layout.specs.Flat.{length-at, shift-at, cells}
 use Rattle.matrix.specs.Claims.{leading-rules, rank-rules, degree-sum-rules}
 use Rattle.product.specs.Claims.{first-low-place, first-order-place}
 use Rattle.matrix.specs.Fill.{array-of}
-use Rattle.matrix.specs.Degrees.{flat-degree-sum, leading-number}
+use Rattle.matrix.specs.Degrees.{leading-number}
 use Rattle.product.specs.Faults.{flat-fault}
 use Rattle.matrix.specs.Rank.{rank-number}
 use Rattle.layout.specs.Settles.{Settles}
@@ -94,6 +94,6 @@ module _ (x : Arrays) (c : Claim) (held : Held x c) where
       (dependent-local (K (c .problem .p)) (c .problem .m) (c .problem .m + c .problem .n) _ _ (λ i j hi hj. sym (same-rank i j hi hj))
       (rank-below-iff (c .problem) (c .answer .P) (c .answer .C) (le-of-lt (held .valid .valid-problem .prime .two-le)) .0 e)))
 
-  pub same-degree-sum : flat-degree-sum (x .lengths) (x .shifts) (c .problem .m) ≡ degree-sum (c .problem) (c .answer .P)
+  pub same-degree-sum : degree-sum-of (c .problem .m) (length-at (x .lengths)) (shift-at (x .shifts)) ≡ degree-sum (c .problem) (c .answer .P)
   same-degree-sum =
       degree-sum-rules (c .problem) (c .answer .P) (x .entries) (x .lengths) (x .shifts) (held .lengths-held) (held .shifts-held)

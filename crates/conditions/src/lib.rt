@@ -1,8 +1,7 @@
 // The four conditions of document 01, on a claim that lies in flat arrays. A name means the same in all functions: orders, shifts, the
 // coefficients f of F, the lengths and the coefficients (entries) of P's entries, C, the prime, the rows and the columns.
 ghost use mathlib.Core.Path.{_≡_};
-ghost use Prim.Native.Nat.{ℕ, _+_, _<_, _≤_};
-ghost use lib.ListN.{getD};
+ghost use Prim.Native.Nat.{_+_, _<_, _≤_};
 ghost use Rattle.algebra.specs.Prime.{Prime};
 ghost use Rattle.algebra.specs.Residue.{K};
 ghost use Rattle.algebra.specs.Det.{det};
@@ -11,7 +10,7 @@ ghost use Rattle.rules.specs.Sizes.{most-rows};
 ghost use Rattle.rules.specs.Conditions.{first-place};
 ghost use Rattle.rules.specs.Verdict.{judge-claim};
 ghost use Rattle.verdict.specs.Meant.{meant};
-ghost use Rattle.layout.specs.Holds.{Ordered};
+ghost use Rattle.layout.specs.Holds.{Each, Ordered};
 ghost use Rattle.layout.specs.Settles.{Settles};
 ghost use Rattle.elimination.specs.Grid.{grid};
 ghost use Rattle.matrix.specs.Fill.{array-of};
@@ -49,7 +48,7 @@ fn not_reduced<'a>(
     p: u32,
     m: usize,
 ) -> bool
-    requires { ⌜ Prime p × ((k : ℕ) → getD (now entries) k 0 < p) ⌝ }
+    requires { ⌜ Prime p × Each p (now entries) ⌝ }
     requires { ⌜ Sized (now lengths) shifts ⌝ }
     requires { ⌜ (0 < m) × (m ≤ most-rows) ⌝ }
     ensures { λ r. ⌜ Settles (det (K p) m (grid p (array-of m m (leading-number (now (entries .entry)) (now (lengths .entry)) shifts m))) ≡ K p .𝟘) r ⌝ }
@@ -93,7 +92,7 @@ fn low_rank<'a>(
     m: usize,
     n: usize,
 ) -> bool
-    requires { ⌜ Prime p × (((k : ℕ) → getD (now entries) k 0 < p) × ((k : ℕ) → getD (now c) k 0 < p)) ⌝ }
+    requires { ⌜ Prime p × (Each p (now entries) × Each p (now c)) ⌝ }
     requires { ⌜ (m ≤ most-rows) × (n ≤ most-rows) ⌝ }
     ensures { λ r. ⌜ Settles (Dependent (K p) m (m + n) (grid p (array-of m (m + n) (rank-number (now (entries .entry)) (now (c .entry)) m)))) r ⌝ }
 {

@@ -1,7 +1,7 @@
 -- A small matrix as the code has it, a list of rows, each a list of numbers, and what the steps of elimination leave of it.
 --   at a i j                 the entry in row i and column j, 0 past the end
 --   grid p a                 the matrix of residues modulo p
---   RowBelow p x, Below p a  every entry is below p
+--   Below p a                every entry is below p
 --   Found a c r m k          k is the first row from r on, and below m, with an entry other than 0 in column c, or m
 --   Exchanged a i k b        b is a with the rows i and k exchanged
 --   RowLess p x f y c n z    z is the row x less f times the row y, in the columns from c to n
@@ -18,6 +18,7 @@ use Rattle.algebra.specs.Residue.{K, red}
 use Rattle.algebra.specs.Sum.{swap}
 use Rattle.algebra.specs.Matrix.{Matrix}
 use Rattle.algebra.specs.Dependence.{Dependent}
+use Rattle.layout.specs.Holds.{Each}
 use Rattle.elimination.specs.Steps.{Rest}
 
 -- The entry in row i and column j, 0 past the end.
@@ -28,12 +29,9 @@ at a i j = getD (getD a i []) j 0
 abbrev pub grid : (p : ℕ) → List (List ℕ) → Matrix (K p)
 grid p a i j = red p (at a i j)
 
--- Every entry of a row, of a matrix, is below p.
-abbrev pub RowBelow : ℕ → List ℕ → Type 0
-RowBelow p x = (j : ℕ) → getD x j 0 < p
-
+-- Every entry of a matrix is below p.
 abbrev pub Below : ℕ → List (List ℕ) → Type 0
-Below p a = (i : ℕ) → RowBelow p (getD a i [])
+Below p a = (i : ℕ) → Each p (getD a i [])
 
 -- Row k is the first from r on, of the rows below m, whose entry in column c is not 0; it is m where there is none.
 pub record Found (a : List (List ℕ)) (c r m k : ℕ) : Type 0 where
@@ -54,7 +52,7 @@ module _ (p : ℕ) where
   infix 80 ⊖_
   -- From the row x, f times the row y is taken, in the columns from c to n. Those from n on stay.
   pub record RowLess (x : List ℕ) (f : ℕ) (y : List ℕ) (c n : ℕ) (z : List ℕ) : Type 0 where
-    pub row-below : RowBelow p z
+    pub row-below : Each p z
     pub less : (j : ℕ) → j < n → c ≤ j → red p (getD z j 0) ≡ red p (getD x j 0) ⊕ ⊖ (red p f ⊗ red p (getD y j 0))
     pub stay : (j : ℕ) → n ≤ j → getD z j 0 ≡ getD x j 0
 

@@ -28,10 +28,11 @@ use Rattle.field.specs.Laws.{remainder-below, red-of-sub, red-of-mul, red-of-in
 use Rattle.elimination.specs.Steps.{Rest, rest-start, rest-exchange, rest-zero-column, rest-clear, rest-no-rows, rest-no-columns}
 use Rattle.elimination.specs.Lists.{kept-set}
 use Rattle.layout.specs.Settles.{Settles}
-use Rattle.elimination.specs.Grid.{at, grid, RowBelow, Below, Found, Exchanged, RowLess, Cleared, Stepped, Left}
+use Rattle.layout.specs.Holds.{Each}
+use Rattle.elimination.specs.Grid.{at, grid, Below, Found, Exchanged, RowLess, Cleared, Stepped, Left}
 
 -- Where there are numbers below p, p is above 0.
-pub positive-of-row : (p : ℕ) (x : List ℕ) → RowBelow p x → 0 < p
+pub positive-of-row : (p : ℕ) (x : List ℕ) → Each p x → 0 < p
 positive-of-row p x below = omega (arith, below 0)
 
 module _ (p : ℕ) where
@@ -41,7 +42,7 @@ module _ (p : ℕ) where
   infixl 70 _⊗_
   infix 80 ⊖_
   -- At first nothing is taken from the row …
-  pub row-less-start : (x : List ℕ) (f : ℕ) (y : List ℕ) (c : ℕ) → RowBelow p x → RowLess p x f y c c x
+  pub row-less-start : (x : List ℕ) (f : ℕ) (y : List ℕ) (c : ℕ) → Each p x → RowLess p x f y c c x
   row-less-start x f y c below = record { row-below = below; less = λ j hi lo. absurd (omega arith); stay = λ j h. refl }
 
   -- … and a turn takes f times y's entry from the next one.
@@ -72,7 +73,7 @@ module _ (p : ℕ) where
       → f ≡ at b i c * v % p → RowLess p (getD b i []) f (getD a r []) c n z → Cleared p a v r c (i + 1) n (set b i z)
   cleared-more a v r c n i b f z so-far lower inside ef row =
       record {
-        below = kept-set (RowBelow p) [] b i z inside (so-far .below) (row .row-below);
+        below = kept-set (Each p) [] b i z inside (so-far .below) (row .row-below);
         kept = getD-set-other b i r z [] (λ q. omega arith) ∙ so-far .kept;
         rows =
             below-more (λ k. r < k → (j : ℕ) → j < n → c ≤ j → grid p (set b i z) k j ≡ grid p a k j ⊕ ⊖ (grid p a k c ⊗ red p v ⊗ grid p a r j)) i
@@ -89,7 +90,7 @@ module _ (p : ℕ) where
 
   -- Exchanging rows keeps the bound on the entries.
   pub exchanged-below : (a : List (List ℕ)) (i k : ℕ) (b : List (List ℕ)) → Exchanged a i k b → Below p a → Below p b
-  exchanged-below a i k b exchanged below j = subst (RowBelow p) (sym (exchanged j)) (below (swap i k j))
+  exchanged-below a i k b exchanged below j = subst (Each p) (sym (exchanged j)) (below (swap i k j))
 
   -- An exchange and the clearing of the rows below are a step.
   pub stepped : Prime p → (a : List (List ℕ)) (r c k m n v : ℕ) (s b : List (List ℕ)) → r ≤ k → k < m → c < n → at a k c ≢ 0 → at a k c < p

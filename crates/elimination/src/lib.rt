@@ -2,14 +2,16 @@
 // takes it and returns what it leaves.
 ghost use mathlib.Core.Path.{_≡_};
 ghost use mathlib.Core.Logic.{_≢_};
-ghost use Prim.Native.Nat.{_*_, _<_, _≤_};
+ghost use Prim.Native.Nat.{_<_, _≤_};
 ghost use Rattle.algebra.specs.Prime.{Prime};
 ghost use Rattle.algebra.specs.Residue.{K};
 ghost use Rattle.algebra.specs.Det.{det};
 ghost use Rattle.algebra.specs.Dependence.{Dependent};
 ghost use Rattle.rules.specs.Sizes.{most-rows};
+ghost use Rattle.layout.specs.Flat.{width};
+ghost use Rattle.layout.specs.Holds.{Each};
 ghost use Rattle.layout.specs.Settles.{Settles};
-ghost use Rattle.elimination.specs.Grid.{at, grid, RowBelow, Below, Found, Exchanged, RowLess, Cleared, Stepped};
+ghost use Rattle.elimination.specs.Grid.{at, grid, Below, Found, Exchanged, RowLess, Cleared, Stepped};
 use layout::COLUMNS;
 use layout::ROWS;
 
@@ -20,7 +22,7 @@ pub type Grid = [Row; ROWS];
 // a: the matrix. c: a column. r: the row to start from. m: the number of rows.
 // The first row from r on whose entry in column c is not 0, or m.
 fn pivot_row(a: Grid, c: usize, r: usize, m: usize) -> usize
-    requires { ⌜ c < 2 * most-rows ⌝ }
+    requires { ⌜ c < width ⌝ }
     requires { ⌜ r ≤ m ⌝ }
     requires { ⌜ m ≤ most-rows ⌝ }
     ensures { λ k. ⌜ Found a c r m k ⌝ }
@@ -51,9 +53,9 @@ fn swap_rows(a: Grid, i: usize, k: usize) -> Grid
 // x: a row of numbers below p. f: a number. y: a row. c, n: columns.
 // The row x less f times the row y, in the columns from c to n.
 fn less_row(x: Row, f: u32, y: Row, p: u32, c: usize, n: usize) -> Row
-    requires { ⌜ RowBelow p x ⌝ }
+    requires { ⌜ Each p x ⌝ }
     requires { ⌜ c ≤ n ⌝ }
-    requires { ⌜ n ≤ 2 * most-rows ⌝ }
+    requires { ⌜ n ≤ width ⌝ }
     ensures { λ z. ⌜ RowLess p x f y c n z ⌝ }
 {
     let mut z = x;
@@ -73,7 +75,7 @@ fn clear_below(a: Grid, p: u32, v: u32, r: usize, c: usize, m: usize, n: usize) 
     requires { ⌜ r < m ⌝ }
     requires { ⌜ m ≤ most-rows ⌝ }
     requires { ⌜ c < n ⌝ }
-    requires { ⌜ n ≤ 2 * most-rows ⌝ }
+    requires { ⌜ n ≤ width ⌝ }
     ensures { λ b. ⌜ Cleared p a v r c m n b ⌝ }
 {
     let mut b = a;
@@ -99,7 +101,7 @@ fn step(a: Grid, p: u32, r: usize, c: usize, k: usize, m: usize, n: usize) -> Gr
     requires { ⌜ k < m ⌝ }
     requires { ⌜ m ≤ most-rows ⌝ }
     requires { ⌜ c < n ⌝ }
-    requires { ⌜ n ≤ 2 * most-rows ⌝ }
+    requires { ⌜ n ≤ width ⌝ }
     requires { ⌜ at a k c ≢ 0 ⌝ }
     ensures { λ b. ⌜ Stepped p a r c m n b ⌝ }
 {
@@ -116,7 +118,7 @@ fn step(a: Grid, p: u32, r: usize, c: usize, k: usize, m: usize, n: usize) -> Gr
 pub fn dependent(a: Grid, p: u32, m: usize, n: usize) -> bool
     requires { ⌜ Prime p ⌝ }
     requires { ⌜ m ≤ most-rows ⌝ }
-    requires { ⌜ n ≤ 2 * most-rows ⌝ }
+    requires { ⌜ n ≤ width ⌝ }
     requires { ⌜ Below p a ⌝ }
     ensures { λ r. ⌜ Settles (Dependent (K p) m n (grid p a)) r ⌝ }
 {

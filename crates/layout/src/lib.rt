@@ -44,7 +44,7 @@ pub fn entry_place(i: usize, j: usize, k: usize) -> usize
     requires { ⌜ (i < most-rows) × ((j < most-rows) × (k < most-length)) ⌝ }
     ensures { λ r. ⌜ r ≡ entry-place i j k ⌝ }
 {
-    (i * ROWS + j) * LENGTH + k
+    square_place(i, j) * LENGTH + k
 }
 
 // Where the coefficient at power k of F's entry in row i and column j stands.

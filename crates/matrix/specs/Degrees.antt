@@ -1,6 +1,6 @@
--- Condition 1 over the flat arrays: the degree of an entry from its length, of a row, their sum, and the leading matrix.
---   length-degree n          the degree of an entry with n coefficients
---   entry-term, flat-row-degree, flat-degree-sum
+-- Condition 1 over the flat arrays: the degrees of the rows and their sum, which are the rules' for the lengths and the shifts that the
+-- arrays hold, and the leading matrix.
+--   entry-term               what the degree of a row is the largest of
 --   at-power z f             the coefficient of f at the integer z: 0 where z is negative
 --   leading-number           the numbers of the leading matrix
 --   Sized lengths shifts     the sizes of document 01
@@ -19,28 +19,21 @@ use Rattle.algebra.specs.Residue.{K, red}
 use Rattle.algebra.specs.Sum.{sum, sum-add, neg-sum}
 use Rattle.algebra.specs.Integer.{Integers, natAbs-add}
 use Rattle.algebra.specs.Degree.{coefficient, leading}
-use Rattle.rules.specs.Conditions.{maxZ, largest}
+use Rattle.rules.specs.Conditions.{degree-of, maxZ, largest, row-degree-of, degree-sum-of}
 use Rattle.rules.specs.Sizes.{most-rows, most-length, most-shift}
-use Rattle.layout.specs.Flat.{square-place, cell, cells, cell-below}
+use Rattle.layout.specs.Flat.{square-place, length-at, shift-at, cell, cells, cell-below}
+use Rattle.layout.specs.Holds.{Each, Short}
 use Rattle.matrix.specs.Fill.{array-of, array-of-at, array-of-below}
 use Rattle.matrix.specs.Signed.{natAbs-minus, natAbs-largest, natAbs-sum}
 
--- "An entry of length 0 counts as degree 0."
-unfoldable pub length-degree : ℕ → ℤ
-length-degree n = pos (pred n)
-
 -- The lengths of P's entries and the shifts are within document 01's sizes.
 pub record Sized (lengths : List ℕ) (shifts : List ℤ) : Type 0 where
-  pub length-most : (k : ℕ) → getD lengths k 0 ≤ most-length
-  pub shift-most : (j : ℕ) → natAbs (getD shifts j (pos 0)) ≤ most-shift
+  pub length-most : Short lengths
+  pub shift-most : (j : ℕ) → natAbs (shift-at shifts j) ≤ most-shift
 
 -- Degree plus the column's shift.
-unfoldable pub entry-term : List ℕ → List ℤ → ℕ → ℕ → ℤ
-entry-term lengths shifts i j = length-degree (getD lengths (square-place i j) 0) +ℤ getD shifts j (pos 0)
-
--- "The degree of row i is the largest, over its entries, of degree plus that column's shift"
-unfoldable pub flat-row-degree : List ℕ → List ℤ → ℕ → ℕ → ℤ
-flat-row-degree lengths shifts m i = largest (pred m) (entry-term lengths shifts i)
+abbrev pub entry-term : List ℕ → List ℤ → ℕ → ℕ → ℤ
+entry-term lengths shifts i j = pos (degree-of (length-at lengths i j)) +ℤ shift-at shifts j
 
 -- The largest from j on, up to n.
 abbrev pub largest-from : (ℕ → ℤ) → ℕ → ℕ → ℤ
@@ -73,23 +66,18 @@ largest-from-zero f n = ap₂ largest (sub-zero n) (fun-ext (λ t. ap f (zero-ad
 module _ (lengths : List ℕ) (shifts : List ℤ) (sized : Sized lengths shifts) where
   -- The sizes of the terms and of the degrees of rows.
   pub term-size : (i j : ℕ) → natAbs (entry-term lengths shifts i j) ≤ most-length + most-shift
-  unfolding entry-term length-degree
+  unfolding degree-of
   term-size i j =
-      le-trans (natAbs-add (length-degree (getD lengths (square-place i j) 0)) (getD shifts j (pos 0)))
-      (omega (arith, sized .length-most (square-place i j), sized .shift-most j, pred-le (getD lengths (square-place i j) 0)))
+      le-trans (natAbs-add (pos (degree-of (length-at lengths i j))) (shift-at shifts j))
+      (omega (arith, sized .length-most (square-place i j), sized .shift-most j, pred-le (length-at lengths i j)))
 
-  pub row-degree-size : (m i : ℕ) → natAbs (flat-row-degree lengths shifts m i) ≤ most-length + most-shift
-  unfolding flat-row-degree
+  pub row-degree-size : (m i : ℕ) → natAbs (row-degree-of m (length-at lengths i) (shift-at shifts)) ≤ most-length + most-shift
+  unfolding row-degree-of
   row-degree-size m i = natAbs-largest (most-length + most-shift) (pred m) (entry-term lengths shifts i) (λ j b. term-size i j)
-
--- "the sum of the row degrees less the sum of the shifts"
-unfoldable pub flat-degree-sum : List ℕ → List ℤ → ℕ → ℤ
-flat-degree-sum lengths shifts m =
-    sum Integers m (flat-row-degree lengths shifts m) -ℤ sum Integers m (λ j. getD shifts j (pos 0))
 
 -- The row degrees less the shifts, one by one.
 abbrev pub excess : List ℕ → List ℤ → ℕ → ℕ → ℤ
-excess lengths shifts m i = flat-row-degree lengths shifts m i -ℤ getD shifts i (pos 0)
+excess lengths shifts m i = row-degree-of m (length-at lengths i) (shift-at shifts) -ℤ shift-at shifts i
 
 -- The sum from i on, below n.
 abbrev pub sum-from : (ℕ → ℤ) → ℕ → ℕ → ℤ
@@ -117,17 +105,17 @@ pub sum-from-zero : (f : ℕ → ℤ) (n : ℕ) → sum-from f n 0 ≡ sum Integ
 sum-from-zero f n = ap₂ (sum Integers) (sub-zero n) (fun-ext (λ t. ap f (zero-add t)))
 
 -- The sum of the differences is the difference of the sums.
-pub degree-sum-excess : (lengths : List ℕ) (shifts : List ℤ) (m : ℕ) → sum Integers m (excess lengths shifts m) ≡ flat-degree-sum lengths shifts m
-unfolding flat-degree-sum
+pub degree-sum-excess : (lengths : List ℕ) (shifts : List ℤ) (m : ℕ) → sum Integers m (excess lengths shifts m) ≡ degree-sum-of m (length-at lengths) (shift-at shifts)
+unfolding degree-sum-of
 degree-sum-excess lengths shifts m =
-    sum-add Integers m (flat-row-degree lengths shifts m) (λ i. negℤ (getD shifts i (pos 0)))
-    ∙ ap (λ x. sum Integers m (flat-row-degree lengths shifts m) +ℤ x) (sym (neg-sum Integers m (λ i. getD shifts i (pos 0))))
+    sum-add Integers m (λ i. row-degree-of m (length-at lengths i) (shift-at shifts)) (λ i. negℤ (shift-at shifts i))
+    ∙ ap (λ x. sum Integers m (λ i. row-degree-of m (length-at lengths i) (shift-at shifts)) +ℤ x) (sym (neg-sum Integers m (shift-at shifts)))
 
 module _ (lengths : List ℕ) (shifts : List ℤ) (sized : Sized lengths shifts) where
   -- The sizes of the differences and of their sums.
   pub excess-size : (m i : ℕ) → natAbs (excess lengths shifts m i) ≤ most-length + most-shift + most-shift
   excess-size m i =
-      le-trans (natAbs-minus (flat-row-degree lengths shifts m i) (getD shifts i (pos 0)))
+      le-trans (natAbs-minus (row-degree-of m (length-at lengths i) (shift-at shifts)) (shift-at shifts i))
       (omega (arith, row-degree-size lengths shifts sized m i, sized .shift-most i))
 
   pub sum-from-size : (m i : ℕ) → natAbs (sum-from (excess lengths shifts m) m i) ≤ (m - i) * (most-length + most-shift + most-shift)
@@ -165,21 +153,21 @@ red-at-power p (negsuc k) f = refl
 -- "The leading matrix holds at (i, j) the coefficient of P's entry at the power (row degree − s_j), or 0 if the entry has none there
 -- or that power is negative."
 unfoldable pub leading-number : List ℕ → List ℕ → List ℤ → ℕ → ℕ → ℕ → ℕ
-leading-number a lengths shifts m i j = at-power (flat-row-degree lengths shifts m i -ℤ getD shifts j (pos 0)) (cell a i j)
+leading-number entries lengths shifts m i j = at-power (row-degree-of m (length-at lengths i) (shift-at shifts) -ℤ shift-at shifts j) (cell entries i j)
 
 -- Modulo p the array is the leading matrix of the polynomials, for the row degrees and the shifts.
-pub leading-array : (p : ℕ) (a lengths : List ℕ) (shifts : List ℤ) (m i j : ℕ) → i < m → j < m → m ≤ most-rows
-    → red p (getD (getD (array-of m m (leading-number a lengths shifts m)) i []) j 0)
-    ≡ leading (K p) (flat-row-degree lengths shifts m) (λ j. getD shifts j (pos 0)) (cells p a) i j
+pub leading-array : (p : ℕ) (entries lengths : List ℕ) (shifts : List ℤ) (m i j : ℕ) → i < m → j < m → m ≤ most-rows
+    → red p (getD (getD (array-of m m (leading-number entries lengths shifts m)) i []) j 0)
+    ≡ leading (K p) (λ i. row-degree-of m (length-at lengths i) (shift-at shifts)) (shift-at shifts) (cells p entries) i j
 unfolding leading-number
-leading-array p a lengths shifts m i j hi hj hm =
-    ap (red p) (array-of-at m m (leading-number a lengths shifts m) i j hi hj hm (omega arith))
-    ∙ red-at-power p (flat-row-degree lengths shifts m i -ℤ getD shifts j (pos 0)) (cell a i j)
+leading-array p entries lengths shifts m i j hi hj hm =
+    ap (red p) (array-of-at m m (leading-number entries lengths shifts m) i j hi hj hm (omega arith))
+    ∙ red-at-power p (row-degree-of m (length-at lengths i) (shift-at shifts) -ℤ shift-at shifts j) (cell entries i j)
 
 -- Its numbers are below p where the coefficients are.
-pub leading-array-below : (p : ℕ) (a lengths : List ℕ) (shifts : List ℤ) (m : ℕ) → 0 < p → ((k : ℕ) → getD a k 0 < p)
-    → (i j : ℕ) → getD (getD (array-of m m (leading-number a lengths shifts m)) i []) j 0 < p
+pub leading-array-below : (p : ℕ) (entries lengths : List ℕ) (shifts : List ℤ) (m : ℕ) → 0 < p → Each p entries
+    → (i j : ℕ) → getD (getD (array-of m m (leading-number entries lengths shifts m)) i []) j 0 < p
 unfolding leading-number
-leading-array-below p a lengths shifts m pos-p below =
-    array-of-below p m m (leading-number a lengths shifts m) pos-p
-    (λ i j. at-power-below p (flat-row-degree lengths shifts m i -ℤ getD shifts j (pos 0)) (cell a i j) pos-p (cell-below p a i j pos-p below))
+leading-array-below p entries lengths shifts m pos-p below =
+    array-of-below p m m (leading-number entries lengths shifts m) pos-p
+    (λ i j. at-power-below p (row-degree-of m (length-at lengths i) (shift-at shifts) -ℤ shift-at shifts j) (cell entries i j) pos-p (cell-below p entries i j pos-p below))

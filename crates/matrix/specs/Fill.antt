@@ -6,7 +6,7 @@ use mathlib.Core.Path.{_≡_, refl, sym, ap, subst, _∙_}
 use mathlib.Core.Bool.{Bool, true, false, cond}
 use mathlib.Core.Logic.{_≢_}
 use mathlib.Core.List.{List, []}
-use Prim.Native.Nat.{ℕ, zero, _+_, _≤_, _<_}
+use Prim.Native.Nat.{ℕ, _+_, _≤_, _<_}
 use native.Mathlib.Nat.{lt-of-lt-of-le}
 use native.Mathlib.Decide.{ℕ-discrete}
 use native.Mathlib.Omega.{arith}
@@ -17,6 +17,7 @@ use lib.Seq.{ext-getD, getD-set-same, getD-set-other}
 use Rattle.rules.specs.Evidence.{table}
 use Rattle.rules.specs.EvidenceLaws.{length-table, getD-table, table-all}
 use Rattle.rules.specs.Sizes.{most-rows}
+use Rattle.layout.specs.Flat.{width}
 
 -- The values below k, and z from there on.
 abbrev pub up-to : {A : Type 0} → A → ℕ → (ℕ → A) → ℕ → A
@@ -24,14 +25,14 @@ up-to z k g i = cond (ltb i k) (g i) z
 
 -- A row of the array: n numbers, and zeros.
 unfoldable pub row-of : ℕ → (ℕ → ℕ) → List ℕ
-row-of n g = table (most-rows + most-rows) (up-to 0 n g)
+row-of n g = table width (up-to 0 n g)
 
 -- The rows of a matrix with n columns, and the row of zeros.
 abbrev pub rows-of : ℕ → (ℕ → ℕ → ℕ) → ℕ → List ℕ
 rows-of n g i = row-of n (g i)
 
 unfoldable pub zero-row : List ℕ
-zero-row = table (most-rows + most-rows) (λ j. 0)
+zero-row = table width (λ j. 0)
 
 -- The array: m rows of n numbers, and zeros.
 unfoldable pub array-of : ℕ → ℕ → (ℕ → ℕ → ℕ) → List (List ℕ)
@@ -88,7 +89,7 @@ module _ {A : Type 0} (d z : A) (n : ℕ) (g : ℕ → A) where
 
 -- A row of which k numbers are filled in, and the rows of which k are.
 abbrev pub RowFilled : ℕ → (ℕ → ℕ) → List ℕ → Type 0
-RowFilled = Filled 0 0 (most-rows + most-rows)
+RowFilled = Filled 0 0 width
 
 abbrev pub RowsFilled : ℕ → ℕ → (ℕ → ℕ → ℕ) → List (List ℕ) → Type 0
 RowsFilled k n g = Filled [] zero-row most-rows k (rows-of n g)
@@ -96,20 +97,20 @@ RowsFilled k n g = Filled [] zero-row most-rows k (rows-of n g)
 -- With all filled in they are the row and the array.
 pub filled-row : {k n : ℕ} {row : List ℕ} (g : ℕ → ℕ) → RowFilled k g row → k ≡ n → row ≡ row-of n g
 unfolding row-of
-filled-row {k} {n} {row} g f e = filled-table 0 0 (most-rows + most-rows) g k row f ∙ ap (λ k. row-of k g) e
+filled-row {k} {n} {row} g f e = filled-table 0 0 width g k row f ∙ ap (λ k. row-of k g) e
 
 pub filled-array : {k m : ℕ} {rows : List (List ℕ)} (n : ℕ) (g : ℕ → ℕ → ℕ) → RowsFilled k n g rows → k ≡ m → rows ≡ array-of m n g
 unfolding array-of
 filled-array {k} {m} {rows} n g f e = filled-table [] zero-row most-rows (rows-of n g) k rows f ∙ ap (λ k. array-of k n g) e
 
 -- Which numbers the array holds: those of g in the first m rows and n columns …
-pub array-of-at : (m n : ℕ) (g : ℕ → ℕ → ℕ) (i j : ℕ) → i < m → j < n → m ≤ most-rows → n ≤ most-rows + most-rows
+pub array-of-at : (m n : ℕ) (g : ℕ → ℕ → ℕ) (i j : ℕ) → i < m → j < n → m ≤ most-rows → n ≤ width
     → getD (getD (array-of m n g) i []) j 0 ≡ g i j
 unfolding array-of row-of
 array-of-at m n g i j hi hj hm hn =
     ap (λ l. getD l j 0)
     (getD-table most-rows (up-to zero-row m (rows-of n g)) [] i (lt-of-lt-of-le hi hm) ∙ up-to-below zero-row m (rows-of n g) i hi)
-    ∙ getD-table (most-rows + most-rows) (up-to 0 n (g i)) 0 j (lt-of-lt-of-le hj hn)
+    ∙ getD-table width (up-to 0 n (g i)) 0 j (lt-of-lt-of-le hj hn)
     ∙ up-to-below 0 n (g i) j hj
 
 -- What every value has, and the default, is had by whatever is read.
@@ -122,5 +123,5 @@ unfolding array-of row-of zero-row
 array-of-below p m n g zero-below below =
     table-all most-rows (up-to zero-row m (rows-of n g)) [] (λ l. (j : ℕ) → getD l j 0 < p) (λ j. zero-below)
     (up-to-all (λ l. (j : ℕ) → getD l j 0 < p) zero-row m (rows-of n g)
-    (table-all (most-rows + most-rows) (λ j. 0) 0 (λ x. x < p) zero-below (λ j. zero-below))
-    (λ i. table-all (most-rows + most-rows) (up-to 0 n (g i)) 0 (λ x. x < p) zero-below (up-to-all (λ x. x < p) 0 n (g i) zero-below (below i))))
+    (table-all width (λ j. 0) 0 (λ x. x < p) zero-below (λ j. zero-below))
+    (λ i. table-all width (up-to 0 n (g i)) 0 (λ x. x < p) zero-below (up-to-all (λ x. x < p) 0 n (g i) zero-below (below i))))

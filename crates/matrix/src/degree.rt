@@ -1,12 +1,12 @@
 // Document 01, condition 1: the degrees of the rows for the shifts, which may be negative, their sum, and the leading matrix.
 ghost use mathlib.Core.Path.{_≡_};
 ghost use Prim.Native.Nat.{_+_, _^_, _<_, _≤_};
-ghost use lib.IntN.{natAbs, _+ℤ_, _-ℤ_};
-ghost use Rattle.rules.specs.Conditions.{maxZ};
+ghost use lib.IntN.{pos, natAbs, _+ℤ_, _-ℤ_};
+ghost use Rattle.rules.specs.Conditions.{degree-of, maxZ, row-degree-of, degree-sum-of};
 ghost use Rattle.rules.specs.Verdict.{natural};
 ghost use Rattle.rules.specs.Sizes.{most-rows, most-length};
-ghost use Rattle.layout.specs.Flat.{cell};
-ghost use Rattle.matrix.specs.Degrees.{length-degree, entry-term, flat-row-degree, flat-degree-sum, at-power, leading-number, Sized};
+ghost use Rattle.layout.specs.Flat.{length-at, shift-at, cell};
+ghost use Rattle.matrix.specs.Degrees.{at-power, leading-number, Sized};
 ghost use Rattle.matrix.specs.Fill.{row-of, array-of};
 use layout::COLUMNS;
 use layout::ENTRY_COEFFICIENTS;
@@ -18,9 +18,9 @@ use layout::square_place;
 
 // length: the number of coefficients of an entry.
 // Its degree: one less, and 0 for the entry 0.
-pub fn entry_degree(length: usize) -> i32
+fn entry_degree(length: usize) -> i32
     requires { ⌜ length ≤ most-length ⌝ }
-    ensures { λ r. ⌜ r ≡ length-degree length ⌝ }
+    ensures { λ r. ⌜ r ≡ pos (degree-of length) ⌝ }
 {
     if length == 0 { 0 } else { (length - 1) as i32 }
 }
@@ -64,7 +64,7 @@ pub fn not_negative(x: i32) -> u32
 fn term(lengths: &[usize; SQUARE], shifts: [i32; ROWS], i: usize, j: usize) -> i32
     requires { ⌜ Sized (now lengths) shifts ⌝ }
     requires { ⌜ (i < most-rows) × (j < most-rows) ⌝ }
-    ensures { λ r. ⌜ r ≡ entry-term (now (lengths .entry)) shifts i j ⌝ }
+    ensures { λ r. ⌜ r ≡ pos (degree-of (length-at (now (lengths .entry)) i j)) +ℤ shift-at shifts j ⌝ }
 {
     let degree = entry_degree(lengths[square_place(i, j)]);
     plus(degree, shifts[j])
@@ -72,10 +72,10 @@ fn term(lengths: &[usize; SQUARE], shifts: [i32; ROWS], i: usize, j: usize) -> i
 
 // m: the number of columns. i: a row.
 // "the largest, over its entries, of degree plus that column's shift; it may be negative".
-pub fn row_degree(lengths: &[usize; SQUARE], shifts: [i32; ROWS], m: usize, i: usize) -> i32
+fn row_degree(lengths: &[usize; SQUARE], shifts: [i32; ROWS], m: usize, i: usize) -> i32
     requires { ⌜ Sized (now lengths) shifts ⌝ }
     requires { ⌜ (0 < m) × ((m ≤ most-rows) × (i < most-rows)) ⌝ }
-    ensures { λ r. ⌜ r ≡ flat-row-degree (now (lengths .entry)) shifts m i ⌝ }
+    ensures { λ r. ⌜ r ≡ row-degree-of m (length-at (now (lengths .entry)) i) (shift-at shifts) ⌝ }
 {
     let mut j = m - 1;
     let mut most = term(lengths, shifts, i, j);
@@ -91,7 +91,7 @@ pub fn row_degree(lengths: &[usize; SQUARE], shifts: [i32; ROWS], m: usize, i: u
 pub fn degree_sum(lengths: &[usize; SQUARE], shifts: [i32; ROWS], m: usize) -> i32
     requires { ⌜ Sized (now lengths) shifts ⌝ }
     requires { ⌜ m ≤ most-rows ⌝ }
-    ensures { λ r. ⌜ r ≡ flat-degree-sum (now (lengths .entry)) shifts m ⌝ }
+    ensures { λ r. ⌜ r ≡ degree-sum-of m (length-at (now (lengths .entry))) (shift-at shifts) ⌝ }
 {
     let mut i = m;
     let mut sum: i32 = 0;
@@ -103,27 +103,27 @@ pub fn degree_sum(lengths: &[usize; SQUARE], shifts: [i32; ROWS], m: usize) -> i
     sum
 }
 
-// a: the coefficients of P. i and j: a row and a column. power: any number.
+// entries: the coefficients of P. i and j: a row and a column. power: any number.
 // The coefficient of the entry there at the power, 0 where there is none or the power is negative.
-fn entry_at(a: &[u32; ENTRY_COEFFICIENTS], power: i32, i: usize, j: usize) -> u32
+fn entry_at(entries: &[u32; ENTRY_COEFFICIENTS], power: i32, i: usize, j: usize) -> u32
     requires { ⌜ (i < most-rows) × (j < most-rows) ⌝ }
-    ensures { λ r. ⌜ r ≡ at-power power (cell (now (a .entry)) i j) ⌝ }
+    ensures { λ r. ⌜ r ≡ at-power power (cell (now (entries .entry)) i j) ⌝ }
 {
     if power < 0 {
         return 0;
     }
     let k = power as usize;
     if k < LENGTH {
-        a[entry_place(i, j, k)]
+        entries[entry_place(i, j, k)]
     } else {
         0
     }
 }
 
-// a, lengths, shifts, m: of P. i: a row.
+// entries, lengths, shifts, m: of P. i: a row.
 // The row i of the leading matrix, and zeros.
 fn leading_row<'a>(
-    a: &'a [u32; ENTRY_COEFFICIENTS],
+    entries: &'a [u32; ENTRY_COEFFICIENTS],
     lengths: &'a [usize; SQUARE],
     shifts: [i32; ROWS],
     m: usize,
@@ -131,35 +131,35 @@ fn leading_row<'a>(
 ) -> [u32; COLUMNS]
     requires { ⌜ Sized (now lengths) shifts ⌝ }
     requires { ⌜ (0 < m) × ((m ≤ most-rows) × (i < most-rows)) ⌝ }
-    ensures { λ r. ⌜ r ≡ row-of m (leading-number (now (a .entry)) (now (lengths .entry)) shifts m i) ⌝ }
+    ensures { λ r. ⌜ r ≡ row-of m (leading-number (now (entries .entry)) (now (lengths .entry)) shifts m i) ⌝ }
 {
     let degree = row_degree(lengths, shifts, m, i);
     let mut row = [0; COLUMNS];
     let mut j = 0;
     while j < m {
         let power = minus(degree, shifts[j]);
-        row[j] = entry_at(a, power, i, j);
+        row[j] = entry_at(entries, power, i, j);
         j += 1;
     }
     row
 }
 
-// a, lengths, shifts, m: of P.
+// entries, lengths, shifts, m: of P.
 // The leading matrix, and zeros.
 pub fn leading_matrix<'a>(
-    a: &'a [u32; ENTRY_COEFFICIENTS],
+    entries: &'a [u32; ENTRY_COEFFICIENTS],
     lengths: &'a [usize; SQUARE],
     shifts: [i32; ROWS],
     m: usize,
 ) -> [[u32; COLUMNS]; ROWS]
     requires { ⌜ Sized (now lengths) shifts ⌝ }
     requires { ⌜ (0 < m) × (m ≤ most-rows) ⌝ }
-    ensures { λ r. ⌜ r ≡ array-of m m (leading-number (now (a .entry)) (now (lengths .entry)) shifts m) ⌝ }
+    ensures { λ r. ⌜ r ≡ array-of m m (leading-number (now (entries .entry)) (now (lengths .entry)) shifts m) ⌝ }
 {
     let mut rows = [[0; COLUMNS]; ROWS];
     let mut i = 0;
     while i < m {
-        rows[i] = leading_row(a, lengths, shifts, m, i);
+        rows[i] = leading_row(entries, lengths, shifts, m, i);
         i += 1;
     }
     rows

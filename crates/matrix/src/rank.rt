@@ -11,62 +11,62 @@ use layout::SQUARE;
 use layout::entry_place;
 use layout::square_place;
 
-// a, c, m: of P and C. i, j: a row and a column of [P(0) C].
+// entries, c, m: of P and C. i, j: a row and a column of [P(0) C].
 // The number there.
 fn rank_entry<'a>(
-    a: &'a [u32; ENTRY_COEFFICIENTS],
+    entries: &'a [u32; ENTRY_COEFFICIENTS],
     c: &'a [u32; SQUARE],
     m: usize,
     i: usize,
     j: usize,
 ) -> u32
     requires { ⌜ (m ≤ most-rows) × ((i < most-rows) × (j < m + most-rows)) ⌝ }
-    ensures { λ r. ⌜ r ≡ rank-number (now (a .entry)) (now (c .entry)) m i j ⌝ }
+    ensures { λ r. ⌜ r ≡ rank-number (now (entries .entry)) (now (c .entry)) m i j ⌝ }
 {
     if j < m {
-        a[entry_place(i, j, 0)]
+        entries[entry_place(i, j, 0)]
     } else {
         c[square_place(i, j - m)]
     }
 }
 
-// a, c, m, n: of P and C. i: a row.
+// entries, c, m, n: of P and C. i: a row.
 // The row i of [P(0) C], and zeros.
 fn rank_row<'a>(
-    a: &'a [u32; ENTRY_COEFFICIENTS],
+    entries: &'a [u32; ENTRY_COEFFICIENTS],
     c: &'a [u32; SQUARE],
     m: usize,
     n: usize,
     i: usize,
 ) -> [u32; COLUMNS]
     requires { ⌜ (m ≤ most-rows) × ((n ≤ most-rows) × (i < most-rows)) ⌝ }
-    ensures { λ r. ⌜ r ≡ row-of (m + n) (rank-number (now (a .entry)) (now (c .entry)) m i) ⌝ }
+    ensures { λ r. ⌜ r ≡ row-of (m + n) (rank-number (now (entries .entry)) (now (c .entry)) m i) ⌝ }
 {
     let width = m + n;
     let mut row = [0; COLUMNS];
     let mut j = 0;
     while j < width {
-        row[j] = rank_entry(a, c, m, i, j);
+        row[j] = rank_entry(entries, c, m, i, j);
         j += 1;
     }
     row
 }
 
-// a, c, m, n: of P and C.
+// entries, c, m, n: of P and C.
 // The matrix [P(0) C], and zeros.
 pub fn rank_matrix<'a>(
-    a: &'a [u32; ENTRY_COEFFICIENTS],
+    entries: &'a [u32; ENTRY_COEFFICIENTS],
     c: &'a [u32; SQUARE],
     m: usize,
     n: usize,
 ) -> [[u32; COLUMNS]; ROWS]
     requires { ⌜ (m ≤ most-rows) × (n ≤ most-rows) ⌝ }
-    ensures { λ r. ⌜ r ≡ array-of m (m + n) (rank-number (now (a .entry)) (now (c .entry)) m) ⌝ }
+    ensures { λ r. ⌜ r ≡ array-of m (m + n) (rank-number (now (entries .entry)) (now (c .entry)) m) ⌝ }
 {
     let mut rows = [[0; COLUMNS]; ROWS];
     let mut i = 0;
     while i < m {
-        rows[i] = rank_row(a, c, m, n, i);
+        rows[i] = rank_row(entries, c, m, n, i);
         i += 1;
     }
     rows

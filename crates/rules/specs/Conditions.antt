@@ -2,7 +2,7 @@
 --   reduced, monomial-determinant      conditions 1 and 2
 --   first-place, low-fault, order-fault      condition 3, and the place of its first fault
 --   rank-below                         condition 4
---   degree-sum                         Δ
+--   degree-of, row-degree-of, degree-sum-of      degrees by the lengths of the entries; of a claim: row-degree, degree-sum (Δ)
 use mathlib.Core.Bool.{Bool, true, false, cond, not}
 use mathlib.Core.List.{List, []}
 use mathlib.Core.Option.{Option, none, some}
@@ -33,9 +33,9 @@ some-below (suc n) test = elim (test zero) [ true ↦ true | false ↦ some-belo
 
 -- 1. REDUCED
 
--- "An entry of length 0 counts as degree 0."
-unfoldable pub degree : List ℕ → ℕ
-degree l = pred (length l)
+-- The degree of an entry with so many coefficients: "An entry of length 0 counts as degree 0."
+unfoldable pub degree-of : ℕ → ℕ
+degree-of n = pred n
 
 -- The larger of two.
 abbrev pub maxZ : ℤ → ℤ → ℤ
@@ -46,9 +46,14 @@ unfoldable pub largest : ℕ → (ℕ → ℤ) → ℤ
 largest zero f = f zero
 largest (suc n) f = maxZ (f zero) (largest n (λ j. f (suc j)))
 
--- "The degree of row i is the largest, over its entries, of degree plus that column's shift; it may be negative."
-unfoldable pub row-degree : (b : Problem) → List (List (List ℕ)) → ℕ → ℤ
-row-degree b P i = largest (pred (b .m)) (λ j. pos (degree (at P i j)) +ℤ shift b j)
+-- "The degree of row i is the largest, over its entries, of degree plus that column's shift; it may be negative." Of a row with m
+-- entries, by their lengths and the shifts …
+unfoldable pub row-degree-of : ℕ → (ℕ → ℕ) → (ℕ → ℤ) → ℤ
+row-degree-of m lengths shifts = largest (pred m) (λ j. pos (degree-of (lengths j)) +ℤ shifts j)
+
+-- … and of row i of P.
+abbrev pub row-degree : (b : Problem) → List (List (List ℕ)) → ℕ → ℤ
+row-degree b P i = row-degree-of (b .m) (λ j. length (at P i j)) (shift b)
 
 -- "The leading matrix holds at (i, j) the coefficient of P's entry at the power (row degree − s_j), or 0 if the entry has none there
 -- or that power is negative."
@@ -76,9 +81,10 @@ unfoldable pub max-below : ℕ → (ℕ → ℕ) → ℕ
 max-below zero f = 0
 max-below (suc n) f = max (f zero) (max-below n (λ i. f (suc i)))
 
--- The determinant has no coefficient from here on: one more than the sum, over the rows, of the largest degree in the row.
+-- The determinant has no coefficient from here on: one more than the sum, over the rows, of the highest power that an entry of the row
+-- has room for.
 unfoldable pub determinant-bound : Problem → List (List (List ℕ)) → ℕ
-determinant-bound b P = suc (sum-below (b .m) (λ i. max-below (b .m) (λ j. degree (at P i j))))
+determinant-bound b P = suc (sum-below (b .m) (λ i. max-below (b .m) (λ j. pred (length (at P i j)))))
 
 -- How many of the first n coefficients of f are not 0.
 unfoldable pub count-nonzero : (p : ℕ) → ℕ → (ℕ → Residue p) → ℕ
@@ -89,9 +95,13 @@ count-nonzero p (suc n) f = cond (is-zero p (f zero)) 0 1 + count-nonzero p n (�
 unfoldable pub monomial-determinant : Problem → List (List (List ℕ)) → Bool
 monomial-determinant b P = eqb (count-nonzero (b .p) (determinant-bound b P) (determinant b P)) 1
 
--- "Δ is the sum of the row degrees less the sum of the shifts"
-unfoldable pub degree-sum : Problem → List (List (List ℕ)) → ℤ
-degree-sum b P = sum Integers (b .m) (row-degree b P) -ℤ sum Integers (b .m) (shift b)
+-- "Δ is the sum of the row degrees less the sum of the shifts", by the lengths of the entries and the shifts …
+unfoldable pub degree-sum-of : ℕ → (ℕ → ℕ → ℕ) → (ℕ → ℤ) → ℤ
+degree-sum-of m lengths shifts = sum Integers m (λ i. row-degree-of m (lengths i) shifts) -ℤ sum Integers m shifts
+
+-- … of P.
+abbrev pub degree-sum : Problem → List (List (List ℕ)) → ℤ
+degree-sum b P = degree-sum-of (b .m) (λ i j. length (at P i j)) (shift b)
 
 -- 3. PRODUCT
 

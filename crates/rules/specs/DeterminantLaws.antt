@@ -7,11 +7,12 @@ use mathlib.Core.Path.{_≡_, refl, sym, ap, subst, _∙_}
 use mathlib.Core.Logic.{_≢_, _↔_, Iff·trans}
 use mathlib.Core.Bool.{true, cond}
 use mathlib.Core.List.{List}
-use Prim.Native.Nat.{ℕ, zero, suc, _+_, _≤_, _<_, suc-le-suc}
-use native.Mathlib.Nat.{le-of-suc-le-suc, not-suc-le-zero, zero-lt-suc, le-trans, le-max-left, le-max-right, zero-add, suc-inj, suc-ne-zero, lt-of-not-le}
+use Prim.Native.Nat.{ℕ, zero, suc, pred, _+_, _≤_, _<_, zero-le, suc-le-suc}
+use native.Mathlib.Nat.{le-of-suc-le-suc, not-suc-le-zero, zero-lt-suc, le-refl, le-trans, le-max-left, le-max-right, zero-add, suc-inj, suc-ne-zero, lt-of-not-le}
 use native.Mathlib.Omega.{arith}
 use native.Mathlib.Decide.{decLe, ℕ-discrete}
 use lib.IntN.{pos, _+ℤ_, _-ℤ_, +ℤ-idr}
+use lib.ListN.{length}
 use Rattle.algebra.specs.Ring.{CommRing}
 use Rattle.algebra.specs.Integer.{Integers}
 use Rattle.algebra.specs.Residue.{K, Residue, K-decides}
@@ -22,11 +23,11 @@ use Rattle.algebra.specs.PolyMatrix.{entries}
 use Rattle.algebra.specs.OrderBasis.{Monomial}
 use Rattle.rules.specs.Claim.{Problem}
 use Rattle.rules.specs.Matrices.{at, matrix-P}
-use Rattle.rules.specs.Conditions.{is-zero, degree, reduced, determinant, sum-below, max-below, determinant-bound, count-nonzero, monomial-determinant}
+use Rattle.rules.specs.Conditions.{is-zero, reduced, determinant, sum-below, max-below, determinant-bound, count-nonzero, monomial-determinant}
 use Rattle.rules.specs.Conditions.{degree-sum}
 use Rattle.rules.specs.BoolLaws.{false-iff, eqb-iff}
 use Rattle.rules.specs.SearchLaws.{is-zero-iff}
-use Rattle.rules.specs.ReducedLaws.{length-degree, degree-sum-natural}
+use Rattle.rules.specs.ReducedLaws.{degree-sum-natural}
 
 -- None of the f i below n is above the largest.
 pub le-max-below : (n : ℕ) (f : ℕ → ℕ) (j : ℕ) → j < n → f j ≤ max-below n f
@@ -35,6 +36,11 @@ le-max-below zero f j h = absurd (not-suc-le-zero h)
 le-max-below (suc n) f zero h = le-max-left (f zero) (max-below n (λ i. f (suc i)))
 le-max-below (suc n) f (suc j) h =
     le-trans (le-max-below n (λ i. f (suc i)) j (le-of-suc-le-suc h)) (le-max-right (f zero) (max-below n (λ i. f (suc i))))
+
+-- A length is at most one more than the highest power that it has room for.
+length-room : (n : ℕ) → n ≤ suc (pred n)
+length-room zero = zero-le
+length-room (suc n) = le-refl (suc n)
 
 sum-pos : (n : ℕ) (f : ℕ → ℕ) → sum Integers n (λ i. pos (f i)) ≡ pos (sum-below n f)
 unfolding sum sum-below
@@ -109,7 +115,7 @@ module _ (p : ℕ) where
 
 module _ (b : Problem) (P : List (List (List ℕ))) where
   row-bound : ℕ → ℕ
-  row-bound i = max-below (b .m) (λ j. degree (at P i j))
+  row-bound i = max-below (b .m) (λ j. pred (length (at P i j)))
 
   -- The determinant has no coefficient from the bound on.
   pub determinant-below : Below (K (b .p)) (determinant-bound b P) (determinant b P)
@@ -122,7 +128,7 @@ module _ (b : Problem) (P : List (List (List ℕ))) where
       at-most : (i j : ℕ) → i < b .m → j < b .m → AtMost (K (b .p)) (pos (row-bound i) -ℤ pos 0) (matrix-P b P i j .series)
       at-most i j hi hj =
           subst (λ x. AtMost (K (b .p)) x (matrix-P b P i j .series)) (sym (+ℤ-idr (pos (row-bound i))))
-          (λ k h. matrix-P b P i j .below k (omega (arith, length-degree (at P i j), le-max-below (b .m) (λ j. degree (at P i j)) j hj)))
+          (λ k h. matrix-P b P i j .below k (omega (arith, length-room (length (at P i j)), le-max-below (b .m) (λ j. pred (length (at P i j))) j hj)))
 
   -- Condition 2: the test passes exactly if the determinant is "a nonzero constant times a power of X".
   pub monomial-determinant-iff : (monomial-determinant b P ≡ true) ↔ Monomial (K (b .p)) (determinant b P)

@@ -21,7 +21,7 @@ use Rattle.rules.specs.Claim.{Problem, Claim}
 use Rattle.rules.specs.Files.{read-claim, read-basis}
 use Rattle.rules.specs.Valid.{ValidProblem, ValidBasis, Valid}
 use Rattle.rules.specs.Matrices.{shift, at}
-use Rattle.rules.specs.Conditions.{degree, largest, row-degree, degree-sum, reduced, monomial-determinant, rank-below, low-fault, order-fault}
+use Rattle.rules.specs.Conditions.{degree-of, largest, row-degree-of, row-degree, degree-sum-of, degree-sum, reduced, monomial-determinant, rank-below, low-fault, order-fault}
 use Rattle.rules.specs.Conditions.{first-place}
 use Rattle.rules.specs.Verdict.{Numbers, passed, unread, not-reduced, not-monomial, below-order, at-order, low-rank, no-room, written, four, numbers}
 use Rattle.rules.specs.Verdict.{natural, by-rank, by-product, judge-claim, verdict, packed}
@@ -83,15 +83,15 @@ natural-natAbs (negsuc d) = zero-le
 -- The degree sum of a valid claim is small.
 module _ (b : Problem) (P : List (List (List ℕ))) (valid : ValidProblem b) (basis : ValidBasis b P) where
   row-degree-most : (i : ℕ) → natAbs (row-degree b P i) ≤ most-order + most-shift
-  unfolding row-degree degree most-length most-order
-  row-degree-most i = natAbs-largest (pred (b .m)) (most-order + most-shift) (λ j. pos (degree (at P i j)) +ℤ shift b j)
+  unfolding row-degree-of degree-of most-length most-order
+  row-degree-most i = natAbs-largest (pred (b .m)) (most-order + most-shift) (λ j. pos (degree-of (length (at P i j))) +ℤ shift b j)
       (λ j.
-      let added : natAbs (pos (degree (at P i j)) +ℤ shift b j) ≤ pred (length (at P i j)) + natAbs (shift b j) =
-      natAbs-add (pos (degree (at P i j))) (shift b j) in
+      let added : natAbs (pos (degree-of (length (at P i j))) +ℤ shift b j) ≤ pred (length (at P i j)) + natAbs (shift b j) =
+      natAbs-add (pos (degree-of (length (at P i j)))) (shift b j) in
       omega (arith, valid .shift-most j, basis .P-entry-length i j))
 
   degree-sum-most : natural (degree-sum b P) ≤ most-rows * (most-order + most-shift + most-shift)
-  unfolding degree-sum most-rows
+  unfolding degree-sum-of most-rows
   degree-sum-most = omega (
     arith,
     natural-natAbs (degree-sum b P),

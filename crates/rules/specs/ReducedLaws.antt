@@ -26,7 +26,7 @@ use Rattle.algebra.specs.Degree.{AtMost, EntriesAtMost, coefficient, coefficien
 use Rattle.algebra.specs.PolyMatrix.{entries}
 use Rattle.rules.specs.Claim.{Problem}
 use Rattle.rules.specs.Matrices.{shift, at, matrix-P}
-use Rattle.rules.specs.Conditions.{degree, maxZ, largest, row-degree, leading-matrix, reduced, determinant, degree-sum}
+use Rattle.rules.specs.Conditions.{degree-of, maxZ, largest, row-degree-of, row-degree, leading-matrix, reduced, determinant, degree-sum-of, degree-sum}
 use Rattle.rules.specs.BoolLaws.{false-iff, not-iff}
 use Rattle.rules.specs.SearchLaws.{is-zero-iff}
 
@@ -76,23 +76,20 @@ largest-above (suc n) f (suc j) h =
     (k + l, g ∙ ap (λ x. x +ℤ pos l) e ∙ +ℤ-assoc (f (suc j)) (pos k) (pos l))
 
 -- An entry has no coefficient above its degree.
-pub length-degree : (l : List ℕ) → length l ≤ suc (degree l)
-unfolding degree
-length-degree l = at-most (length l)
-  where
-    at-most : (n : ℕ) → n ≤ suc (pred n)
-    at-most zero = zero-le
-    at-most (suc n) = le-refl (suc n)
+pub length-degree : (n : ℕ) → n ≤ suc (degree-of n)
+unfolding degree-of
+length-degree zero = zero-le
+length-degree (suc n) = le-refl (suc n)
 
 module _ (b : Problem) (P : List (List (List ℕ))) where
   -- The power at which an entry has its leading coefficient is a natural number, and the entry's degree is not above it.
-  pub leading-power-natural : (i j : ℕ) → j < b .m → (d : ℕ) × (row-degree b P i -ℤ shift b j ≡ pos d) × (degree (at P i j) ≤ d)
-  unfolding row-degree
+  pub leading-power-natural : (i j : ℕ) → j < b .m → (d : ℕ) × (row-degree b P i -ℤ shift b j ≡ pos d) × (degree-of (length (at P i j)) ≤ d)
+  unfolding row-degree-of
   leading-power-natural i j h =
-      let f : ℕ → ℤ = λ j. pos (degree (at P i j)) +ℤ shift b j in
+      let f : ℕ → ℤ = λ j. pos (degree-of (length (at P i j))) +ℤ shift b j in
       let (k, e) = largest-above (pred (b .m)) f j (subst (λ x. j < x) (sym (suc-pred-eq-of-pos (omega arith))) h) in (
-        degree (at P i j) + k,
-        ap (λ x. x -ℤ shift b j) e ∙ ring Integers (pos (degree (at P i j)) ∷ shift b j ∷ pos k ∷ []) (v0 ⊞ v1 ⊞ v2 ⊞ ⊟ v1) (v0 ⊞ v2) refl,
+        degree-of (length (at P i j)) + k,
+        ap (λ x. x -ℤ shift b j) e ∙ ring Integers (pos (degree-of (length (at P i j))) ∷ shift b j ∷ pos k ∷ []) (v0 ⊞ v1 ⊞ v2 ⊞ ⊟ v1) (v0 ⊞ v2) refl,
         omega arith,
       )
 
@@ -101,7 +98,7 @@ module _ (b : Problem) (P : List (List (List ℕ))) where
   unfolding AtMost
   entries-at-most i j hi hj =
       let (d, e, le) = leading-power-natural i j hj in
-      subst (λ x. AtMost (K (b .p)) x (matrix-P b P i j .series)) (sym e) (λ k above. matrix-P b P i j .below k (omega (arith, length-degree (at P i j))))
+      subst (λ x. AtMost (K (b .p)) x (matrix-P b P i j .series)) (sym e) (λ k above. matrix-P b P i j .below k (omega (arith, length-degree (length (at P i j)))))
 
   -- Condition 1: "P is reduced if the leading matrix has a determinant other than 0".
   pub reduced-iff : (reduced b P ≡ true) ↔ (det (K (b .p)) (b .m) (leading-matrix b P) ≢ K (b .p) .𝟘)
@@ -125,6 +122,6 @@ module _ (b : Problem) (P : List (List (List ℕ))) where
   -- Of a reduced P the degree sum is a natural number, and the degree of the determinant.
   pub degree-sum-natural : reduced b P ≡ true
       → (d : ℕ) × (degree-sum b P ≡ pos d) × Below (K (b .p)) (suc d) (determinant b P) × (determinant b P d ≢ K (b .p) .𝟘)
-  unfolding degree-sum
+  unfolding degree-sum-of
   degree-sum-natural r =
       degree-of-det (K (b .p)) (b .m) (row-degree b P) (shift b) (entries (K (b .p)) (matrix-P b P)) entries-at-most (reduced-iff .0 r)

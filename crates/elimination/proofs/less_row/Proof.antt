@@ -1,6 +1,6 @@
 -- The columns from c to j are done, those from j on are as they were, and every entry stays below p.
 use mathlib.Core.Path.{_≡_}
-use Prim.Native.Nat.{_-_, _*_, _≤_, _<_}
+use Prim.Native.Nat.{_-_, _≤_, _<_}
 use native.Mathlib.Omega.{arith}
 use lib.ListN.{length, getD, length-set}
 use borrow.Author.Needs.{needs}
@@ -8,11 +8,12 @@ use Rattle.field.specs.Laws.{remainder-below}
 use Rattle.elimination.specs.Grid.{RowLess}
 use Rattle.elimination.specs.Laws.{positive-of-row, row-less-start, row-less-more}
 use Rattle.rules.specs.Sizes.{most-rows}
+use Rattle.layout.specs.Flat.{width}
 use Rattle.elimination.proofs.less_row.Statement.{statement}
 use Rattle.elimination.proofs.less_row.Tie as tie
 
 abbrev Inv-loop : tie.InvT-loop
-Inv-loop f p c n y z₀ j₀ z j = (c ≤ j) × ((j ≤ n) × ((length z ≡ 2 * most-rows) × RowLess p z₀ f y c j z))
+Inv-loop f p c n y z₀ j₀ z j = (c ≤ j) × ((j ≤ n) × ((length z ≡ width) × RowLess p z₀ f y c j z))
 
 abbrev μ-loop : tie.MeasureT-loop
 μ-loop f p c n y z₀ j₀ z j = n - j

@@ -15,7 +15,7 @@ use Rattle.matrix.proofs.degree.entry_at.Tie as tie
 returns : tie.Need-returns
 returns c =
     let s = c .before in
-    sym (at-power-negative (s .args .power) (cell (s .args .a .now) (s .args .i) (s .args .j)) (below-zero-back (s .fits .power) ∙ c .if1 .taken))
+    sym (at-power-negative (s .args .power) (cell (s .args .entries .now) (s .args .i) (s .args .j)) (below-zero-back (s .fits .power) ∙ c .if1 .taken))
 
 cast-k : tie.Need-cast-k
 cast-k c = cast-fits w64 tt (c .before .fits .power) (c .if1 .left)
@@ -34,11 +34,11 @@ element-copy-out-result c = search needs
 
 -- Where the power is not negative, the coefficient is that of the number that the cast gives.
 at-cast : (c : tie.Else1)
-    → at-power (c .before .args .power) (cell (c .before .args .a .now) (c .before .args .i) (c .before .args .j))
-    ≡ cell (c .before .args .a .now) (c .before .args .i) (c .before .args .j) (natAbs (toZ w32 (ofZ w32 (c .before .args .power))))
+    → at-power (c .before .args .power) (cell (c .before .args .entries .now) (c .before .args .i) (c .before .args .j))
+    ≡ cell (c .before .args .entries .now) (c .before .args .i) (c .before .args .j) (natAbs (toZ w32 (ofZ w32 (c .before .args .power))))
 at-cast c =
     let s = c .before in
-    let f = cell (s .args .a .now) (s .args .i) (s .args .j) in
+    let f = cell (s .args .entries .now) (s .args .i) (s .args .j) in
     at-power-natAbs (s .args .power) f (below-zero-back (s .fits .power) ∙ c .if1 .left) ∙ ap (λ z. f (natAbs z)) (sym (back (s .fits .power)))
 
 returns-2 : tie.Need-returns-2
@@ -46,14 +46,14 @@ unfolding most-length
 returns-2 c =
     let s = c .before .before .before .before in
     sym (at-cast (c .before .before .before)
-    ∙ cell-at (s .args .a .now) (s .args .i) (s .args .j) (natAbs (toZ w32 (ofZ w32 (s .args .power)))) (omega arith)
-    ∙ ap (λ k. getD (s .args .a .now) k 0) (sym (c .before .entry-place .ensures)))
+    ∙ cell-at (s .args .entries .now) (s .args .i) (s .args .j) (natAbs (toZ w32 (ofZ w32 (s .args .power)))) (omega arith)
+    ∙ ap (λ k. getD (s .args .entries .now) k 0) (sym (c .before .entry-place .ensures)))
 
 returns-3 : tie.Need-returns-3
 unfolding most-length
 returns-3 c =
     let s = c .before .before in
-    sym (at-cast (c .before) ∙ cell-past (s .args .a .now) (s .args .i) (s .args .j) (natAbs (toZ w32 (ofZ w32 (s .args .power)))) (omega arith))
+    sym (at-cast (c .before) ∙ cell-past (s .args .entries .now) (s .args .i) (s .args .j) (natAbs (toZ w32 (ofZ w32 (s .args .power)))) (omega arith))
 
 pub entry-at-spec : {M : Type 1} → statement M
 entry-at-spec = tie.close (tie.spec returns cast-k entry-place-requires mul-result element-copy-out-result returns-2 returns-3)

@@ -5,9 +5,8 @@ use borrow.Author.Needs.{needs}
 use lib.IntN.{pos}
 use mir.Facts.{toZ-pos}
 use mir.Syntax.{w32}
-use Prim.Native.Nat.{pred}
+use Rattle.rules.specs.Conditions.{degree-of}
 use Rattle.rules.specs.Sizes.{most-length}
-use Rattle.matrix.specs.Degrees.{length-degree}
 use Rattle.matrix.proofs.Signed.{small-fits}
 use Rattle.matrix.proofs.degree.entry_degree.Statement.{statement}
 use Rattle.matrix.proofs.degree.entry_degree.Tie as tie
@@ -20,11 +19,11 @@ unfolding most-length
 cast-result c = small-fits (omega arith)
 
 returns : tie.Need-returns
-unfolding length-degree
-returns c = sym (ap (λ n. pos (pred n)) (c .if1 .taken))
+unfolding degree-of
+returns c = sym (ap (λ n. pos (degree-of n)) (c .if1 .taken))
 
 returns-2 : tie.Need-returns-2
-unfolding length-degree most-length
+unfolding degree-of most-length
 returns-2 c = toZ-pos w32 (omega arith) ∙ ap pos (sub-one (c .before .args .length))
 
 pub entry-degree-spec : {M : Type 1} → statement M

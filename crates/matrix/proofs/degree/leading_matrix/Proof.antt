@@ -11,11 +11,11 @@ use Rattle.matrix.proofs.degree.leading_matrix.Statement.{statement}
 use Rattle.matrix.proofs.degree.leading_matrix.Tie as tie
 
 abbrev Inv-loop : tie.InvT-loop
-Inv-loop a lengths shifts m rows₀ i₀ rows i =
-    (i ≤ m) × RowsFilled i m (leading-number a lengths shifts m) rows
+Inv-loop entries lengths shifts m rows₀ i₀ rows i =
+    (i ≤ m) × RowsFilled i m (leading-number entries lengths shifts m) rows
 
 abbrev μ-loop : tie.MeasureT-loop
-μ-loop a lengths shifts m rows₀ i₀ rows i = m - i
+μ-loop entries lengths shifts m rows₀ i₀ rows i = m - i
 
 loop-holds : tie.Need-loop-holds Inv-loop μ-loop
 unfolding most-rows table zero-row
@@ -48,7 +48,7 @@ loop-again c =
 returns : tie.Need-returns Inv-loop μ-loop
 returns c =
     let s = c .before .before in
-    filled-array (s .args .m) (leading-number (s .args .a .now) (s .args .lengths .now) (s .args .shifts) (s .args .m)) (c .before .loop .inv .1) (omega arith)
+    filled-array (s .args .m) (leading-number (s .args .entries .now) (s .args .lengths .now) (s .args .shifts) (s .args .m)) (c .before .loop .inv .1) (omega arith)
 
 pub leading-matrix-spec : {M : Type 1} → statement M
 leading-matrix-spec =

@@ -6,8 +6,8 @@ use lib.IntN.{ℤ}
 use Prim.Native.Nat.{ℕ, _-_, _<_}
 use mir.Syntax.{w32}
 use mir.Val.{toZ}
-use Rattle.rules.specs.Conditions.{maxZ, largest}
-use Rattle.matrix.specs.Degrees.{entry-term, flat-row-degree, largest-from, largest-from-last, largest-from-step, largest-from-zero}
+use Rattle.rules.specs.Conditions.{maxZ, largest, row-degree-of}
+use Rattle.matrix.specs.Degrees.{entry-term, largest-from, largest-from-last, largest-from-step, largest-from-zero}
 use Rattle.matrix.proofs.Signed.{back}
 use Rattle.matrix.proofs.degree.row_degree.Statement.{statement}
 use Rattle.matrix.proofs.degree.row_degree.Tie as tie
@@ -57,7 +57,7 @@ loop-again c =
     )
 
 returns : tie.Need-returns Inv-loop μ-loop
-unfolding flat-row-degree
+unfolding row-degree-of
 returns c =
     let s = c .before .before .before in
     let f : ℕ → ℤ = entry-term (s .args .lengths .now) (s .args .shifts) (s .args .i) in

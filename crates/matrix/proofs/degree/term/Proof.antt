@@ -2,13 +2,13 @@ use mathlib.Core.Path.{_≡_, ap, ap₂, _∙_}
 use native.Mathlib.Nat.{pred-le}
 use native.Mathlib.Omega.{arith}
 use borrow.Author.Needs.{needs}
-use lib.IntN.{natAbs, _+ℤ_}
+use lib.IntN.{pos, natAbs, _+ℤ_}
 use lib.ListN.{getD}
 use mir.Syntax.{w32}
 use mir.Val.{toZ, ofZ}
+use Rattle.rules.specs.Conditions.{degree-of}
 use Rattle.rules.specs.Sizes.{most-rows, most-length, most-shift}
 use Rattle.layout.specs.Flat.{square-place}
-use Rattle.matrix.specs.Degrees.{length-degree, entry-term}
 use Rattle.matrix.proofs.Signed.{back}
 use Rattle.matrix.proofs.Degrees.{shift-back}
 use Rattle.matrix.proofs.degree.term.Statement.{statement}
@@ -41,7 +41,7 @@ degree-back : (c : tie.After-plus-arg) → toZ w32 (ofZ w32 (c .before .entry-de
 degree-back c = back (record { sfits = c .before .entry-degree .ok })
 
 plus-requires : tie.Need-plus-requires
-unfolding most-length most-shift length-degree
+unfolding most-length most-shift degree-of
 plus-requires c κs =
     let s = c .before .before .before .before in
     omega (
@@ -55,7 +55,6 @@ plus-requires c κs =
     )
 
 returns : tie.Need-returns
-unfolding entry-term
 returns c =
     let s = c .before .before .before .before .before in
     back (record { sfits = c .plus .ok })
@@ -63,7 +62,7 @@ returns c =
     ∙ ap₂ _+ℤ_
     (degree-back (c .before)
     ∙ c .before .before .entry-degree .ensures
-    ∙ ap (λ k. length-degree (getD (s .args .lengths .now) k 0)) (c .before .before .before .before .square-place .ensures))
+    ∙ ap (λ k. pos (degree-of (getD (s .args .lengths .now) k 0))) (c .before .before .before .before .square-place .ensures))
     (shift-back (s .args .lengths .now) (s .args .t2) (s .pre .0) (s .args .j))
 
 pub term-spec : {M : Type 1} → statement M

@@ -11,10 +11,10 @@ use Rattle.matrix.proofs.rank.rank_matrix.Statement.{statement}
 use Rattle.matrix.proofs.rank.rank_matrix.Tie as tie
 
 abbrev Inv-loop : tie.InvT-loop
-Inv-loop a c m n rows₀ i₀ rows i = (i ≤ m) × RowsFilled i (m + n) (rank-number a c m) rows
+Inv-loop entries c m n rows₀ i₀ rows i = (i ≤ m) × RowsFilled i (m + n) (rank-number entries c m) rows
 
 abbrev μ-loop : tie.MeasureT-loop
-μ-loop a c m n rows₀ i₀ rows i = m - i
+μ-loop entries c m n rows₀ i₀ rows i = m - i
 
 loop-holds : tie.Need-loop-holds Inv-loop μ-loop
 unfolding most-rows table zero-row
@@ -47,7 +47,7 @@ loop-again c =
 returns : tie.Need-returns Inv-loop μ-loop
 returns c =
     let s = c .before .before in
-    filled-array (s .args .m + s .args .n) (rank-number (s .args .a .now) (s .args .c .now) (s .args .m)) (c .before .loop .inv .1) (omega arith)
+    filled-array (s .args .m + s .args .n) (rank-number (s .args .entries .now) (s .args .c .now) (s .args .m)) (c .before .loop .inv .1) (omega arith)
 
 pub rank-matrix-spec : {M : Type 1} → statement M
 rank-matrix-spec =

@@ -1,20 +1,21 @@
 use borrow.Author.Needs.{needs}
 use mathlib.Core.Path.{refl}
 use native.Mathlib.Omega.{arith}
-use Prim.Native.Nat.{_+_, _-_, _≤_}
+use Prim.Native.Nat.{_-_, _≤_}
 use Rattle.rules.specs.Sizes.{most-rows}
 use Rattle.rules.specs.Evidence.{table}
+use Rattle.layout.specs.Flat.{width}
 use Rattle.matrix.specs.Fill.{RowFilled, filled-none, filled-more, filled-row}
 use Rattle.matrix.specs.Rank.{rank-number}
 use Rattle.matrix.proofs.rank.rank_row.Statement.{statement}
 use Rattle.matrix.proofs.rank.rank_row.Tie as tie
 
 abbrev Inv-loop : tie.InvT-loop
-Inv-loop a c m n i width row₀ j₀ row j =
-    (j ≤ width) × RowFilled j (rank-number a c m i) row
+Inv-loop entries c m n i width row₀ j₀ row j =
+    (j ≤ width) × RowFilled j (rank-number entries c m i) row
 
 abbrev μ-loop : tie.MeasureT-loop
-μ-loop a c m n i width row₀ j₀ row j = width - j
+μ-loop entries c m n i width row₀ j₀ row j = width - j
 
 add-width : tie.Need-add-width Inv-loop μ-loop
 unfolding most-rows
@@ -22,7 +23,7 @@ add-width c = search needs
 
 loop-holds : tie.Need-loop-holds Inv-loop μ-loop
 unfolding most-rows table
-loop-holds c = (search needs, filled-none 0 0 (most-rows + most-rows) _ _ refl)
+loop-holds c = (search needs, filled-none 0 0 width _ _ refl)
 
 rank-entry-requires : tie.Need-rank-entry-requires Inv-loop μ-loop
 unfolding most-rows
@@ -47,12 +48,12 @@ loop-again : tie.Need-loop-again Inv-loop μ-loop
 unfolding most-rows
 loop-again c =
     let at = c .before .before in
-    (search needs, filled-more 0 0 (most-rows + most-rows) _ (at .loop .j) (at .loop .row) (c .rank-entry .result) (at .loop .inv .1) (omega arith) (c .rank-entry .ensures))
+    (search needs, filled-more 0 0 width _ (at .loop .j) (at .loop .row) (c .rank-entry .result) (at .loop .inv .1) (omega arith) (c .rank-entry .ensures))
 
 returns : tie.Need-returns Inv-loop μ-loop
 returns c =
     let s = c .before .before in
-    filled-row (rank-number (s .args .a .now) (s .args .c .now) (s .args .m) (s .args .i)) (c .before .loop .inv .1) (omega arith)
+    filled-row (rank-number (s .args .entries .now) (s .args .c .now) (s .args .m) (s .args .i)) (c .before .loop .inv .1) (omega arith)
 
 pub rank-row-spec : {M : Type 1} → statement M
 rank-row-spec =
