@@ -24,8 +24,8 @@ use Rattle.matrix.specs.Fill.{array-of}
 use Rattle.matrix.specs.Degrees.{leading-number}
 use Rattle.product.specs.Faults.{flat-fault, place-of}
 use Rattle.matrix.specs.Rank.{rank-number}
-use Rattle.product.specs.declared.fault.Place.{Place}
-use Rattle.product.specs.declared.fault.Place.the-variants.{At, Nowhere}
+use Rattle.product.specs.declared.fault.FirstFault.{FirstFault}
+use Rattle.product.specs.declared.fault.FirstFault.the-variants.{At, Nowhere}
 use Rattle.elimination.specs.Grid.{grid}
 use Rattle.conditions.specs.Held.{Arrays, Held, Judged, claim}
 use Rattle.conditions.specs.Applies.{applies, fault-if, fault-at, product-verdict, first-applying, judged-in-order, applies-none, applying-first, applying-later}
@@ -49,7 +49,7 @@ place-none : (o : Option (ℕ × ℕ)) → place-of o ≡ Nowhere → o ≡ none
 place-none none e = refl
 place-none (some (a, b)) e = cc
 
-module _ (m n : ℕ) (faults : ℕ → ℕ → Bool) (at : Place) (e : at ≡ place-of (first-place m n faults)) where
+module _ (m n : ℕ) (faults : ℕ → ℕ → Bool) (at : FirstFault) (e : at ≡ place-of (first-place m n faults)) where
   -- The place of a fault is a row and a column.
   pub fault-place : (i j : ℕ) → at ≡ At i j → (i < m) × (j < n)
   fault-place i j h = let f = first-place-some m n faults i j .0 (place-some (first-place m n faults) i j (sym e ∙ h)) in (f .row, f .column)

@@ -30,7 +30,7 @@ use layout::ROWS;
 use layout::SQUARE;
 use matrix::degree::leading_matrix;
 use matrix::rank::rank_matrix;
-use product::fault::Place;
+use product::fault::FirstFault;
 use product::fault::first_fault;
 use verdict::Verdict;
 
@@ -73,7 +73,7 @@ fn product_fault<'a>(
     requires { ⌜ (m ≤ most-rows) × (n ≤ most-rows) ⌝ }
     ensures { λ r. ⌜ finding r ≡ fault-at (product-verdict «at_order») (first-place m n (flat-fault «at_order» p (now (entries .entry)) (now (f .entry)) m orders (now (c .entry)))) ⌝ }
 {
-    let Place::At(i, j) = first_fault(entries, lengths, f, orders, c, p, m, n, at_order) else {
+    let FirstFault::At(i, j) = first_fault(entries, lengths, f, orders, c, p, m, n, at_order) else {
         return Finding::Nothing;
     };
     let row = i as u16;

@@ -1,10 +1,10 @@
 -- The determinant of a square by expansion along its first row, as the arrays have it.
---   terms p a row columns n     the signed products of the first row's entries and the determinants of the squares of size n that are left
---   total p a row columns n j   the sum of the first j of them
+--   terms p entries row columns n     the signed products of the first row's entries and the determinants of the squares left, of size n
+--   total p entries row columns n j   the sum of the first j of them
 --   Expanded                    the sums hold that, and it has no power above the row's bound
 use mathlib.Core.Path.{_≡_, sym, ap, ap₂, subst, _∙_}
 use mathlib.Core.List.{List}
-use Prim.Native.Nat.{ℕ, zero, suc, pred, _+_, _%_, _^_, _≤_, _<_}
+use Prim.Native.Nat.{ℕ, zero, suc, pred, _+_, _%_, _≤_, _<_}
 use native.Mathlib.Nat.{mod-lt}
 use native.Mathlib.Numerals.{add-one}
 use native.Mathlib.Omega.{arith}
@@ -18,11 +18,12 @@ use Rattle.algebra.specs.Polynomial.{Below, below-mono, below-zero, below-add, 
 use Rattle.algebra.specs.Matrix.{Matrix}
 use Rattle.algebra.specs.Det.{det, minor, det-local}
 use Rattle.rules.specs.Sizes.{most-rows}
-use Rattle.layout.specs.Flat.{cell, cells}
+use Rattle.field.specs.Cut.{cut}
+use Rattle.layout.specs.Flat.{length-at, cell, cells}
 use Rattle.determinant.specs.Padded.{Stands, Filled, Remainder, filled-small, filled-stands, getD-zeros, most-power, capacity}
 use Rattle.determinant.specs.Product.{AddedProduct}
 use Rattle.determinant.specs.Sign.{signed, SignedEntry}
-use Rattle.determinant.specs.Tops.{Tops, length-at}
+use Rattle.determinant.specs.Tops.{Tops}
 use Rattle.determinant.specs.Square.{Holds, Asked, Determinant, square, Without}
 
 -- A sign in front of a series is that sign in front of each coefficient.
@@ -42,42 +43,42 @@ abbrev pub Polynomials : ℕ → CommRing
 Polynomials p = Series (K p)
 
 -- The signed products of the first row's entries and the determinants of the squares that are left.
-abbrev pub terms : (p : ℕ) (a : List ℕ) (row : ℕ) (columns : List ℕ) (n : ℕ) → ℕ → ℕ → Residue p
-terms p a row columns n j =
-    Polynomials p ._⊗_ (Polynomials p ._⊗_ (sign (Polynomials p) j) (square p a row columns zero j)) (det (Polynomials p) n (minor zero j (square p a row columns)))
+abbrev pub terms : (p : ℕ) (entries : List ℕ) (row : ℕ) (columns : List ℕ) (n : ℕ) → ℕ → ℕ → Residue p
+terms p entries row columns n j =
+    Polynomials p ._⊗_ (Polynomials p ._⊗_ (sign (Polynomials p) j) (square p entries row columns zero j)) (det (Polynomials p) n (minor zero j (square p entries row columns)))
 
 -- The sum of the first j of them.
-abbrev pub total : (p : ℕ) (a : List ℕ) (row : ℕ) (columns : List ℕ) (n : ℕ) → ℕ → ℕ → Residue p
-total p a row columns n j = sum (Polynomials p) j (terms p a row columns n)
+abbrev pub total : (p : ℕ) (entries : List ℕ) (row : ℕ) (columns : List ℕ) (n : ℕ) → ℕ → ℕ → Residue p
+total p entries row columns n j = sum (Polynomials p) j (terms p entries row columns n)
 
-pub record Expanded (p row n j : ℕ) (a tops columns s : List ℕ) : Type 0 where
-  pub value : (i : ℕ) → red p (getD s i 0) ≡ total p a row columns n j i
-  pub below : Below (K p) (suc (getD tops row 0)) (total p a row columns n j)
+pub record Expanded (p row n j : ℕ) (entries tops columns s : List ℕ) : Type 0 where
+  pub value : (i : ℕ) → red p (getD s i 0) ≡ total p entries row columns n j i
+  pub below : Below (K p) (suc (getD tops row 0)) (total p entries row columns n j)
 
 -- Nothing has been added to sums that are 0.
-pub expanded-none : (p row n : ℕ) (a tops columns : List ℕ) → Expanded p row n 0 a tops columns (replicate capacity 0)
+pub expanded-none : (p row n : ℕ) (entries tops columns : List ℕ) → Expanded p row n 0 entries tops columns (replicate capacity 0)
 unfolding sum
-expanded-none p row n a tops columns = record { value = λ i. ap (red p) (getD-zeros capacity i); below = below-zero (K p) (suc (getD tops row 0)) }
+expanded-none p row n entries tops columns = record { value = λ i. ap (red p) (getD-zeros capacity i); below = below-zero (K p) (suc (getD tops row 0)) }
 
-module _ {p c n row : ℕ} {a lengths tops columns : List ℕ} (asked : Asked p c (suc n) row a lengths tops columns) where
+module _ {p c n row : ℕ} {entries lengths tops columns : List ℕ} (asked : Asked p c (suc n) row entries lengths tops columns) where
   few : row + suc n ≤ most-rows
   few = asked .holds .few-rows
 
   -- The j-th entry of the first row, with its length and what holds of them.
-  entry-zeros : (j : ℕ) → j < suc n → (k : ℕ) → length-at lengths row (getD columns j 0) ≤ k → cell a row (getD columns j 0) k ≡ 0
-  entry-zeros j h k le = asked .holds .zeros row (getD columns j 0) k (omega arith) (asked .within j h) le
+  entry-zeros : (j : ℕ) → j < suc n → (k : ℕ) → length-at lengths row (getD columns j 0) ≤ k → cell entries row (getD columns j 0) k ≡ 0
+  entry-zeros j h k le = asked .holds .padded .past-length row (getD columns j 0) k (omega arith) (asked .within j h) le
 
-  first-row : (j k : ℕ) → square p a row columns zero j k ≡ cells p a row (getD columns j 0) k
-  first-row j k = ap (λ i. red p (cell a i (getD columns j 0) k)) (omega arith)
+  first-row : (j k : ℕ) → square p entries row columns zero j k ≡ cells p entries row (getD columns j 0) k
+  first-row j k = ap (λ i. red p (cell entries i (getD columns j 0) k)) (omega arith)
 
-  signed-term : (j : ℕ) → signed p a row (getD columns j 0) j ≡ Polynomials p ._⊗_ (sign (Polynomials p) j) (square p a row columns zero j)
-  signed-term j = series-ext (K p) (λ k. sym (sign-series (K p) j (square p a row columns zero j) k ∙ ap (λ x. K p ._⊗_ (sign (K p) j) x) (first-row j k)))
+  signed-term : (j : ℕ) → signed p entries row (getD columns j 0) j ≡ Polynomials p ._⊗_ (sign (Polynomials p) j) (square p entries row columns zero j)
+  signed-term j = series-ext (K p) (λ k. sym (sign-series (K p) j (square p entries row columns zero j) k ∙ ap (λ x. K p ._⊗_ (sign (K p) j) x) (first-row j k)))
 
   -- What is asked for the square that is left.
-  pub asked-left : {j : ℕ} (left : List ℕ) → j < suc n → 1 ≤ n → Without j columns left → Asked p c n (row + 1) a lengths tops left
+  pub asked-left : {j : ℕ} (left : List ℕ) → j < suc n → 1 ≤ n → Without j columns left → Asked p c n (row + 1) entries lengths tops left
   asked-left {j} left h some without =
       let rows : row + suc n ≡ row + 1 + n = omega arith in record {
-        holds = subst (λ m. Holds p m a lengths) rows (asked .holds);
+        holds = subst (λ m. Holds p m entries lengths) rows (asked .holds);
         bounded = subst (λ m. Tops m lengths tops) rows (asked .bounded);
         carries = asked .carries;
         small = asked .small;
@@ -86,38 +87,38 @@ module _ {p c n row : ℕ} {a lengths tops columns : List ℕ} (asked : Asked p 
       }
 
   minor-left : (j : ℕ) (left : List ℕ) → Without j columns left
-      → det (Polynomials p) n (square p a (row + 1) left) ≡ det (Polynomials p) n (minor zero j (square p a row columns))
+      → det (Polynomials p) n (square p entries (row + 1) left) ≡ det (Polynomials p) n (minor zero j (square p entries row columns))
   unfolding skip
   minor-left j left without =
-      det-local (Polynomials p) n (square p a (row + 1) left) (minor zero j (square p a row columns))
-      (λ r k hr hk. ap₂ (λ i l. cells p a i l) (omega arith) (without k (omega arith)))
+      det-local (Polynomials p) n (square p entries (row + 1) left) (minor zero j (square p entries row columns))
+      (λ r k hr hk. ap₂ (λ i l. cells p entries i l) (omega arith) (without k (omega arith)))
 
   -- The sum of one term more.
-  more-terms : (j : ℕ) → total p a row columns n (j + 1) ≡ Polynomials p ._⊕_ (total p a row columns n j) (terms p a row columns n j)
-  more-terms j = ap (total p a row columns n) (add-one j) ∙ sum-last (Polynomials p) j (terms p a row columns n)
+  more-terms : (j : ℕ) → total p entries row columns n (j + 1) ≡ Polynomials p ._⊕_ (total p entries row columns n j) (terms p entries row columns n j)
+  more-terms j = ap (total p entries row columns n) (add-one j) ∙ sum-last (Polynomials p) j (terms p entries row columns n)
 
   -- A term whose entry has length 0 is 0: the sums stay as they are.
   pub expanded-zero : {j : ℕ} {s : List ℕ} → j < suc n → length-at lengths row (getD columns j 0) ≡ 0
-      → Expanded p row n j a tops columns s → Expanded p row n (j + 1) a tops columns s
+      → Expanded p row n j entries tops columns s → Expanded p row n (j + 1) entries tops columns s
   expanded-zero {j} h empty done = record {
     value = λ i. done .value i ∙ ap (λ f. f i) (sym same);
     below = subst (Below (K p) (suc (getD tops row 0))) (sym same) (done .below);
   }
     where
-      zeros : square p a row columns zero j ≡ Polynomials p .𝟘
+      zeros : square p entries row columns zero j ≡ Polynomials p .𝟘
       zeros = series-ext (K p) (λ k. first-row j k ∙ ap (red p) (entry-zeros j h k (omega arith)))
 
-      same : total p a row columns n (j + 1) ≡ total p a row columns n j
+      same : total p entries row columns n (j + 1) ≡ total p entries row columns n j
       same =
           more-terms j
-          ∙ ap (λ x. Polynomials p ._⊕_ (total p a row columns n j) x)
-          (ap (λ x. Polynomials p ._⊗_ x (det (Polynomials p) n (minor zero j (square p a row columns))))
+          ∙ ap (λ x. Polynomials p ._⊕_ (total p entries row columns n j) x)
+          (ap (λ x. Polynomials p ._⊗_ x (det (Polynomials p) n (minor zero j (square p entries row columns))))
           (ap (λ x. Polynomials p ._⊗_ (sign (Polynomials p) j) x) zeros ∙ Ring.mul-zero (Polynomials p) (sign (Polynomials p) j))
-          ∙ Ring.zero-mul (Polynomials p) (det (Polynomials p) n (minor zero j (square p a row columns))))
-          ∙ Polynomials p .add-zero (total p a row columns n j)
+          ∙ Ring.zero-mul (Polynomials p) (det (Polynomials p) n (minor zero j (square p entries row columns))))
+          ∙ Polynomials p .add-zero (total p entries row columns n j)
 
   -- The entry with its sign has no power from its length on.
-  signed-below : (j k : ℕ) → j < suc n → length-at lengths row (getD columns j 0) ≤ k → signed p a row (getD columns j 0) j k ≡ K p .𝟘
+  signed-below : (j k : ℕ) → j < suc n → length-at lengths row (getD columns j 0) ≤ k → signed p entries row (getD columns j 0) j k ≡ K p .𝟘
   signed-below j k h le = ap (λ x. K p ._⊗_ (sign (K p) j) (red p x)) (entry-zeros j h k le) ∙ Ring.mul-zero (K p) (sign (K p) j)
 
   -- The power of the entry and that of the square that is left stay below the bound.
@@ -133,8 +134,8 @@ module _ {p c n row : ℕ} {a lengths tops columns : List ℕ} (asked : Asked p 
 
   -- Where the product of the entry with its sign and the determinant of the square that is left is added, the sums have one term more.
   pub expanded-more : {j n′ : ℕ} {e l s s′ : List ℕ} (left : List ℕ) → j < suc n → length-at lengths row (getD columns j 0) ≡ n′ → 0 < n′
-      → Without j columns left → Determinant p n (row + 1) a tops left l → SignedEntry p row (getD columns j 0) n′ j a e
-      → AddedProduct c n′ (getD tops (row + 1) 0) e l s s′ → Expanded p row n j a tops columns s → Expanded p row n (j + 1) a tops columns s′
+      → Without j columns left → Determinant p n (row + 1) entries tops left l → SignedEntry p row (getD columns j 0) n′ j entries e
+      → AddedProduct c n′ (getD tops (row + 1) 0) e l s s′ → Expanded p row n j entries tops columns s → Expanded p row n (j + 1) entries tops columns s′
   expanded-more {j} {n′} left h has pos without minor-is entry added done = record {
     value = λ i.
         added .same p f g (asked .carries) (entry .stands zeros) below-f (minor-is .stands) (minor-is .below) i
@@ -142,16 +143,16 @@ module _ {p c n row : ℕ} {a lengths tops columns : List ℕ} (asked : Asked p 
         ∙ ap (λ t. t i) (sym (more-terms j));
     below =
         subst (Below (K p) (suc (getD tops row 0))) (sym (more-terms j))
-        (below-add (K p) (total p a row columns n j) (terms p a row columns n j) (done .below) (subst (Below (K p) (suc (getD tops row 0))) same below-term));
+        (below-add (K p) (total p entries row columns n j) (terms p entries row columns n j) (done .below) (subst (Below (K p) (suc (getD tops row 0))) same below-term));
   }
     where
       f : ℕ → Residue p
-      f = signed p a row (getD columns j 0) j
+      f = signed p entries row (getD columns j 0) j
 
       g : ℕ → Residue p
-      g = det (Polynomials p) n (square p a (row + 1) left)
+      g = det (Polynomials p) n (square p entries (row + 1) left)
 
-      zeros : (k : ℕ) → n′ ≤ k → cell a row (getD columns j 0) k ≡ 0
+      zeros : (k : ℕ) → n′ ≤ k → cell entries row (getD columns j 0) k ≡ 0
       zeros k le = entry-zeros j h k (omega arith)
 
       below-f : Below (K p) n′ f
@@ -162,12 +163,12 @@ module _ {p c n row : ℕ} {a lengths tops columns : List ℕ} (asked : Asked p 
           below-mono (K p) (convolve (K p) f g) (omega (arith, top-step j n′ h has))
           (below-mul-suc (K p) {d = pred n′} {e = getD tops (row + 1) 0} f g (below-mono (K p) f (omega arith) below-f) (minor-is .below))
 
-      same : convolve (K p) f g ≡ terms p a row columns n j
+      same : convolve (K p) f g ≡ terms p entries row columns n j
       same = ap₂ (λ x y. convolve (K p) x y) (signed-term j) (minor-left j left without)
 
   -- All terms make the determinant.
-  pub expanded-all : {s l : List ℕ} → Expanded p row n (suc n) a tops columns s → Filled (getD tops row 0 + 1) (Remainder p s) l
-      → Determinant p (suc n) row a tops columns l
+  pub expanded-all : {s l : List ℕ} → Expanded p row n (suc n) entries tops columns s → Filled (getD tops row 0 + 1) (Remainder p s) l
+      → Determinant p (suc n) row entries tops columns l
   unfolding det
   expanded-all {s} done filled = record {
     stands =
@@ -178,47 +179,47 @@ module _ {p c n row : ℕ} {a lengths tops columns : List ℕ} (asked : Asked p 
   }
     where
       D : ℕ → Residue p
-      D = total p a row columns n (suc n)
+      D = total p entries row columns n (suc n)
 
       positive : 0 < p
       positive = omega (arith, asked .holds .two-le)
 
 -- The determinant of a square of size 1 is its entry.
-pub determinant-one : {p c row : ℕ} {a lengths tops columns l : List ℕ} → Asked p c 1 row a lengths tops columns
-    → SignedEntry p row (getD columns 0 0) (length-at lengths row (getD columns 0 0)) 0 a l → Determinant p 1 row a tops columns l
+pub determinant-one : {p c row : ℕ} {entries lengths tops columns l : List ℕ} → Asked p c 1 row entries lengths tops columns
+    → SignedEntry p row (getD columns 0 0) (length-at lengths row (getD columns 0 0)) 0 entries l → Determinant p 1 row entries tops columns l
 unfolding sign
-determinant-one {p} {c} {row} {a} {lengths} {tops} {columns} {l} asked entry = record {
+determinant-one {p} {c} {row} {entries} {lengths} {tops} {columns} {l} asked entry = record {
   stands = subst (Stands p l) is-entry (entry .stands zeros);
   below = subst (Below (K p) (suc (getD tops row 0))) is-entry
       (λ k le. signed-below asked 0 k (omega arith) (omega (arith, asked .bounded .step row (getD columns 0 0) (omega arith) (asked .within 0 (omega arith)))));
   small = entry .small;
 }
   where
-    zeros : (k : ℕ) → length-at lengths row (getD columns 0 0) ≤ k → cell a row (getD columns 0 0) k ≡ 0
+    zeros : (k : ℕ) → length-at lengths row (getD columns 0 0) ≤ k → cell entries row (getD columns 0 0) k ≡ 0
     zeros = entry-zeros asked 0 (omega arith)
 
-    is-entry : signed p a row (getD columns 0 0) 0 ≡ det (Polynomials p) 1 (square p a row columns)
-    is-entry = signed-term asked 0 ∙ Ring.one-mul (Polynomials p) (square p a row columns zero zero) ∙ sym (det-one (Polynomials p) (square p a row columns))
+    is-entry : signed p entries row (getD columns 0 0) 0 ≡ det (Polynomials p) 1 (square p entries row columns)
+    is-entry = signed-term asked 0 ∙ Ring.one-mul (Polynomials p) (square p entries row columns zero zero) ∙ sym (det-one (Polynomials p) (square p entries row columns))
 
 -- Every column, in order.
 abbrev pub InOrder : List ℕ → Type 0
 InOrder columns = (j : ℕ) → j < most-rows → getD columns j 0 ≡ j
 
 -- What is asked of the whole matrix.
-pub asked-whole : {p m : ℕ} {a lengths tops : List ℕ} (columns : List ℕ) → Holds p m a lengths → Tops m lengths tops → InOrder columns
-    → Asked p (2 ^ 40 % p) m 0 a lengths tops columns
-asked-whole {p} {m} {a} {lengths} {tops} columns holds bounded ordered =
+pub asked-whole : {p m c : ℕ} {entries lengths tops : List ℕ} (columns : List ℕ) → Holds p m entries lengths → Tops m lengths tops → InOrder columns
+    → c ≡ cut % p → Asked p c m 0 entries lengths tops columns
+asked-whole {p} {m} {c} {entries} {lengths} {tops} columns holds bounded ordered e =
     let whole : m ≡ 0 + m = omega arith in record {
-      holds = subst (λ n. Holds p n a lengths) whole holds;
+      holds = subst (λ n. Holds p n entries lengths) whole holds;
       bounded = subst (λ n. Tops n lengths tops) whole bounded;
-      carries = red-mod p (2 ^ 40);
-      small = mod-lt (2 ^ 40) (omega (arith, holds .two-le));
+      carries = ap (red p) e ∙ red-mod p cut;
+      small = subst (λ x. x < p) (sym e) (mod-lt cut (omega (arith, holds .two-le)));
       some = holds .some-row;
       within = λ j h. omega (arith, ordered j (omega (arith, holds .few-rows)));
     }
 
 -- The square of all rows and columns is the matrix.
-pub whole-square : (p m : ℕ) (a columns : List ℕ) → m ≤ most-rows → InOrder columns
-    → det (Polynomials p) m (square p a 0 columns) ≡ det (Polynomials p) m (cells p a)
-whole-square p m a columns few ordered =
-    det-local (Polynomials p) m (square p a 0 columns) (cells p a) (λ i j hi hj. ap₂ (λ x y. cells p a x y) (omega arith) (ordered j (omega arith)))
+pub whole-square : (p m : ℕ) (entries columns : List ℕ) → m ≤ most-rows → InOrder columns
+    → det (Polynomials p) m (square p entries 0 columns) ≡ det (Polynomials p) m (cells p entries)
+whole-square p m entries columns few ordered =
+    det-local (Polynomials p) m (square p entries 0 columns) (cells p entries) (λ i j hi hj. ap₂ (λ x y. cells p entries x y) (omega arith) (ordered j (omega arith)))

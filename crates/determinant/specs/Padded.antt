@@ -1,7 +1,6 @@
 -- How a polynomial modulo p lies in an array: two zeros, then its coefficients from power 0 on, then zeros, at least two of them.
 --   most-power               the highest power in a determinant
 --   capacity                 the numbers of such an array
---   Each b l                 every number of l is below b
 --   Stands p l f             the array l stands for the polynomial f
 --   Filled n P l             the first n coefficients of l satisfy P 0, P 1, …, and everything else is 0
 use mathlib.Core.Path.{_≡_, refl, sym, ap, subst, _∙_}
@@ -18,8 +17,9 @@ use Rattle.algebra.specs.Residue.{K, Residue, red}
 use Rattle.algebra.specs.Series.{shift}
 use Rattle.algebra.specs.Polynomial.{Below}
 use Rattle.rules.specs.Sizes.{most-rows, most-length}
+use Rattle.layout.specs.Holds.{Each}
 
--- Each of the rows contributes one entry, whose degree is below most-length.
+-- Each of the rows contributes one entry, whose powers are below most-length.
 unfoldable pub most-power : ℕ
 most-power = most-rows * (most-length - 1)
 
@@ -27,10 +27,6 @@ most-power = most-rows * (most-length - 1)
 unfoldable pub capacity : ℕ
 unfolding most-power
 capacity = 2 + (1 + most-power) + 2
-
--- Every number of l is below b.
-abbrev pub Each : ℕ → List ℕ → Type 0
-Each b l = (i : ℕ) → getD l i 0 < b
 
 -- The numbers of l are the coefficients of X²·f.
 abbrev pub Stands : (p : ℕ) → List ℕ → (ℕ → Residue p) → Type 0

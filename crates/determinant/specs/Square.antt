@@ -1,6 +1,6 @@
 -- The matrix that a flat array holds, its squares, and what the functions of the crate ask and say of them.
---   Holds p m a lengths      the array a holds an m × m matrix of polynomials modulo p, whose entries have the lengths
---   square p a row columns   the square of the rows from `row` on and the columns that a list names
+--   Holds p m entries lengths      the array holds an m × m matrix of polynomials modulo p, whose entries have the lengths
+--   square p entries row columns   the square of the rows from `row` on and the columns that a list names
 --   Asked                    what is asked for the determinant of a square
 --   Polynomial p top f l     the array l stands for f, which has no power above top, and its numbers are below p
 --   Determinant              the array of a square's determinant
@@ -18,29 +18,29 @@ use Rattle.algebra.specs.Series.{Series}
 use Rattle.algebra.specs.Polynomial.{Below}
 use Rattle.algebra.specs.Matrix.{Matrix}
 use Rattle.algebra.specs.Det.{det}
-use Rattle.rules.specs.Sizes.{largest-prime, most-rows, most-length}
-use Rattle.layout.specs.Flat.{cell, cells}
-use Rattle.determinant.specs.Padded.{Each, Stands}
+use Rattle.rules.specs.Sizes.{largest-prime, most-rows}
+use Rattle.layout.specs.Flat.{cells}
+use Rattle.layout.specs.Holds.{Each, Padded}
+use Rattle.determinant.specs.Padded.{Stands}
 use Rattle.determinant.specs.Fold.{Carries}
-use Rattle.determinant.specs.Tops.{Tops, length-at}
+use Rattle.determinant.specs.Tops.{Tops}
 
--- The flat array a holds an m × m matrix of polynomials modulo p, and lengths says how many coefficients each entry has.
-pub record Holds (p m : ℕ) (a lengths : List ℕ) : Type 0 where
+-- The flat array holds an m × m matrix of polynomials modulo p, and lengths says how many coefficients each entry has.
+pub record Holds (p m : ℕ) (entries lengths : List ℕ) : Type 0 where
   pub two-le : 2 ≤ p
   pub allowed : p ≤ largest-prime
   pub some-row : 1 ≤ m
   pub few-rows : m ≤ most-rows
-  pub below : Each p a
-  pub short : (i : ℕ) → getD lengths i 0 ≤ most-length
-  pub zeros : (i j k : ℕ) → i < m → j < m → length-at lengths i j ≤ k → cell a i j k ≡ 0
+  pub below : Each p entries
+  pub padded : Padded m entries lengths
 
 -- The square with the rows from `row` on and the columns that a list names.
 abbrev pub square : (p : ℕ) → List ℕ → ℕ → List ℕ → Matrix (Series (K p))
-square p a row columns i j = cells p a (row + i) (getD columns j 0)
+square p entries row columns i j = cells p entries (row + i) (getD columns j 0)
 
 -- What is asked for the determinant of the square with `size` rows from `row` on, the last rows of the matrix, and as many columns.
-pub record Asked (p c size row : ℕ) (a lengths tops columns : List ℕ) : Type 0 where
-  pub holds : Holds p (row + size) a lengths
+pub record Asked (p c size row : ℕ) (entries lengths tops columns : List ℕ) : Type 0 where
+  pub holds : Holds p (row + size) entries lengths
   pub bounded : Tops (row + size) lengths tops
   pub carries : Carries p c
   pub small : c < p
@@ -53,8 +53,8 @@ pub record Polynomial (p top : ℕ) (f : ℕ → Residue p) (l : List ℕ) : Typ
   pub below : Below (K p) (suc top) f
   pub small : Each p l
 
-abbrev pub Determinant : (p size row : ℕ) (a tops columns l : List ℕ) → Type 0
-Determinant p size row a tops columns l = Polynomial p (getD tops row 0) (det (Series (K p)) size (square p a row columns)) l
+abbrev pub Determinant : (p size row : ℕ) (entries tops columns l : List ℕ) → Type 0
+Determinant p size row entries tops columns l = Polynomial p (getD tops row 0) (det (Series (K p)) size (square p entries row columns)) l
 
 -- The columns without the j-th.
 abbrev pub Without : (j : ℕ) (columns left : List ℕ) → Type 0
@@ -73,7 +73,7 @@ skip-high zero k h = sym (add-one k)
 skip-high (suc j) zero h = absurd (omega arith)
 skip-high (suc j) (suc k) h = ap suc (skip-high j k (le-of-suc-le-suc h)) ∙ omega arith
 
-module _ {p c size row : ℕ} {a lengths tops columns : List ℕ} (asked : Asked p c size row a lengths tops columns) where
+module _ {p c size row : ℕ} {entries lengths tops columns : List ℕ} (asked : Asked p c size row entries lengths tops columns) where
   -- The first row and the columns of a square are within the matrix.
   pub asked-row : row < most-rows
   asked-row = omega (arith, asked .holds .few-rows, asked .some)
@@ -87,7 +87,7 @@ module _ {p c size row : ℕ} {a lengths tops columns : List ℕ} (asked : Asked
   asked-below h = omega (arith, asked .holds .allowed)
 
   -- A size that is not 0 is a successor.
-  pub asked-suc : Asked p c (suc (size - 1)) row a lengths tops columns
+  pub asked-suc : Asked p c (suc (size - 1)) row entries lengths tops columns
   asked-suc =
       let e : size ≡ suc (size - 1) = omega (arith, asked .some) in
-      subst (λ n. Asked p c n row a lengths tops columns) e asked
+      subst (λ n. Asked p c n row entries lengths tops columns) e asked

@@ -1,7 +1,6 @@
--- Bounds on the powers in a determinant: each row contributes one entry, so that the highest degrees of the rows add up to one.
---   length-at lengths i j    the length of an entry
+-- Bounds on the powers in a determinant: each row contributes one entry, so that the highest powers in the rows add up to one.
 --   Tops m lengths tops      no determinant of the rows from i on has a power above tops i
---   RowTop m i lengths r     r is the highest degree in row i
+--   RowTop m i lengths r     no entry of row i has a power above r
 --   TopsFrom                 the bounds as they are found, from the last row to the first
 use mathlib.Core.Path.{_≡_, sym, ap, subst}
 use mathlib.Core.Logic.{_≢_}
@@ -12,19 +11,15 @@ use native.Mathlib.Decide.{ℕ-discrete}
 use lib.ListN.{length, getD, set, replicate}
 use lib.Seq.{getD-set-same, getD-set-other}
 use Rattle.rules.specs.Sizes.{most-rows, most-length}
-use Rattle.layout.specs.Flat.{square-place}
+use Rattle.layout.specs.Flat.{length-at}
 use Rattle.determinant.specs.Padded.{most-power, getD-zeros}
-
--- The length of the entry in row i and column j.
-abbrev pub length-at : List ℕ → ℕ → ℕ → ℕ
-length-at lengths i j = getD lengths (square-place i j) 0
 
 -- No power above tops i occurs in a determinant of the rows from i on.
 pub record Tops (m : ℕ) (lengths tops : List ℕ) : Type 0 where
   pub step : (i j : ℕ) → i < m → j < m → pred (length-at lengths i j) + getD tops (suc i) 0 ≤ getD tops i 0
   pub high : (i : ℕ) → getD tops i 0 ≤ most-power
 
--- r is the highest degree in row i: an entry of length 0 counts as degree 0.
+-- No entry of row i has a power above r.
 pub record RowTop (m i : ℕ) (lengths : List ℕ) (r : ℕ) : Type 0 where
   pub above : (j : ℕ) → j < m → pred (length-at lengths i j) ≤ r
   pub low : r < most-length
@@ -45,7 +40,7 @@ tops-none m lengths n = record {
   low = omega arith;
 }
 
--- The row before, whose highest degree is added.
+-- The row before, whose highest power is added.
 pub tops-more : {i m sum r : ℕ} {lengths tops : List ℕ} → i < m → i < length tops → RowTop m i lengths r → TopsFrom (suc i) m sum lengths tops
     → TopsFrom i m (sum + r) lengths (set tops i (sum + r))
 unfolding most-length

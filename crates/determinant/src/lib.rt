@@ -4,6 +4,9 @@
 //
 // A polynomial of the work stands in an array of CAPACITY numbers: two zeros, its coefficients from power 0 on, then zeros, at least
 // two of them. With these zeros the product of two polynomials needs no case for its ends.
+use field::CUT;
+use field::cut_mod;
+use field::neg_mod;
 use layout::ENTRY_COEFFICIENTS;
 use layout::LENGTH;
 use layout::ROWS;
@@ -20,13 +23,14 @@ ghost use Rattle.algebra.specs.Sum.{skip};
 ghost use Rattle.algebra.specs.Det.{det};
 ghost use Rattle.algebra.specs.OrderBasis.{Monomial};
 ghost use Rattle.rules.specs.Sizes.{most-rows, most-length};
-ghost use Rattle.layout.specs.Flat.{cells};
+ghost use Rattle.layout.specs.Flat.{length-at, cells};
+ghost use Rattle.layout.specs.Holds.{Each};
 ghost use Rattle.layout.specs.Settles.{Settles};
-ghost use Rattle.determinant.specs.Padded.{most-power, capacity, Each, Filled, Remainder};
+ghost use Rattle.determinant.specs.Padded.{most-power, capacity, Filled, Remainder};
 ghost use Rattle.determinant.specs.Fold.{Folded};
 ghost use Rattle.determinant.specs.Product.{Added, AddedTriple, AddedProduct};
 ghost use Rattle.determinant.specs.Sign.{Signed, SignedEntry};
-ghost use Rattle.determinant.specs.Tops.{Tops, RowTop, length-at};
+ghost use Rattle.determinant.specs.Tops.{Tops, RowTop};
 ghost use Rattle.determinant.specs.Square.{Holds, Asked, Determinant, Without};
 ghost use Rattle.determinant.specs.Expansion.{InOrder};
 ghost use Rattle.determinant.specs.Count.{counted, nonzeros};
@@ -36,9 +40,6 @@ const MOST_POWER: usize = ROWS * (LENGTH - 1);
 
 // The numbers of an array that holds a polynomial.
 const CAPACITY: usize = 2 + (1 + MOST_POWER) + 2;
-
-// Where a sum is folded: 2^40.
-const FOLD: u64 = 1 << 40;
 
 // The polynomial 0.
 fn no_coefficients() -> [u32; CAPACITY]
@@ -61,7 +62,7 @@ fn fold(v: u64, c: u32) -> u64
     requires { ⌜ c < 2 ^ 31 ⌝ }
     ensures { λ r. ⌜ Folded c v r ⌝ }
 {
-    v / FOLD * c as u64 + v % FOLD
+    v / CUT * c as u64 + v % CUT
 }
 
 // x and y: numbers below 2^31, as every number modulo an allowed prime is.
@@ -152,13 +153,14 @@ fn with_sign(x: u32, j: usize, p: u32) -> u32
     if j % 2 == 0 {
         return x;
     }
-    if x == 0 { 0 } else { p - x }
+    neg_mod(x, p)
 }
 
-// a: the coefficients of the matrix, below p. row and column: an entry, of count coefficients. j: the number of that column in a square.
+// entries: the coefficients of the matrix, below p. row and column: an entry, of count coefficients. j: the number of that column in a
+// square.
 // The entry with the sign that it has in the square's expansion, as a polynomial of the work.
 fn signed_entry(
-    a: &[u32; ENTRY_COEFFICIENTS],
+    entries: &[u32; ENTRY_COEFFICIENTS],
     row: usize,
     column: usize,
     count: usize,
@@ -166,12 +168,12 @@ fn signed_entry(
     p: u32,
 ) -> [u32; CAPACITY]
     requires { ⌜ (row < most-rows) × ((column < most-rows) × (count ≤ most-length)) ⌝ }
-    requires { ⌜ Each p (now a) ⌝ }
-    ensures { λ r. ⌜ SignedEntry p row column count j (now (a .entry)) r ⌝ }
+    requires { ⌜ Each p (now entries) ⌝ }
+    ensures { λ r. ⌜ SignedEntry p row column count j (now (entries .entry)) r ⌝ }
 {
     let mut l = no_coefficients();
     for k in 0..count {
-        l[k + 2] = with_sign(a[entry_place(row, column, k)], j, p);
+        l[k + 2] = with_sign(entries[entry_place(row, column, k)], j, p);
     }
     l
 }
@@ -205,12 +207,12 @@ fn without(columns: &[usize; ROWS], j: usize) -> [usize; ROWS]
     left
 }
 
-// a: the coefficients of a matrix, below p. lengths: how many each entry has. tops: for each row, a bound on the powers in a determinant
-// of the rows from there on. c: 2^40 modulo p. size and row: the square's last `size` rows of the matrix start at `row`. columns: the
-// first `size` of these are its columns.
+// entries: the coefficients of a matrix, below p. lengths: how many each entry has. tops: for each row, a bound on the powers in a
+// determinant of the rows from there on. c: 2^40 modulo p. size and row: the square's last `size` rows of the matrix start at `row`.
+// columns: the first `size` of these are its columns.
 // The determinant of the square, each coefficient below p: of one entry, that entry; of a larger square, by its first row.
 fn determinant(
-    a: &[u32; ENTRY_COEFFICIENTS],
+    entries: &[u32; ENTRY_COEFFICIENTS],
     lengths: &[usize; SQUARE],
     tops: &[usize; ROWS],
     p: u32,
@@ -219,14 +221,21 @@ fn determinant(
     row: usize,
     columns: &[usize; ROWS],
 ) -> [u32; CAPACITY]
-    requires { ⌜ Asked p c size row (now a) (now lengths) (now tops) (now columns) ⌝ }
-    ensures { λ r. ⌜ Determinant p size row (now (a .entry)) (now (tops .entry)) (now (columns .entry)) r ⌝ }
+    requires { ⌜ Asked p c size row (now entries) (now lengths) (now tops) (now columns) ⌝ }
+    ensures { λ r. ⌜ Determinant p size row (now (entries .entry)) (now (tops .entry)) (now (columns .entry)) r ⌝ }
 {
     if size == 1 {
         let column = columns[0];
-        signed_entry(a, row, column, entry_length(lengths, row, column), 0, p)
+        signed_entry(
+            entries,
+            row,
+            column,
+            entry_length(lengths, row, column),
+            0,
+            p,
+        )
     } else {
-        expand_row(a, lengths, tops, p, c, size, row, columns)
+        expand_row(entries, lengths, tops, p, c, size, row, columns)
     }
 }
 
@@ -234,7 +243,7 @@ fn determinant(
 // The signed sum of the first row's entries times the determinants of the squares left. A zero entry costs nothing, each product is as
 // long as its factors, and the sums of all products are divided by p once.
 fn expand_row(
-    a: &[u32; ENTRY_COEFFICIENTS],
+    entries: &[u32; ENTRY_COEFFICIENTS],
     lengths: &[usize; SQUARE],
     tops: &[usize; ROWS],
     p: u32,
@@ -243,9 +252,9 @@ fn expand_row(
     row: usize,
     columns: &[usize; ROWS],
 ) -> [u32; CAPACITY]
-    requires { ⌜ Asked p c size row (now a) (now lengths) (now tops) (now columns) ⌝ }
+    requires { ⌜ Asked p c size row (now entries) (now lengths) (now tops) (now columns) ⌝ }
     requires { ⌜ 2 ≤ size ⌝ }
-    ensures { λ r. ⌜ Determinant p size row (now (a .entry)) (now (tops .entry)) (now (columns .entry)) r ⌝ }
+    ensures { λ r. ⌜ Determinant p size row (now (entries .entry)) (now (tops .entry)) (now (columns .entry)) r ⌝ }
 {
     let mut sums = no_sums();
     for j in 0..size {
@@ -253,15 +262,15 @@ fn expand_row(
         let length = entry_length(lengths, row, column);
         if 0 < length {
             let left = without(columns, j);
-            let minor = determinant(a, lengths, tops, p, c, size - 1, row + 1, &left);
-            let entry = signed_entry(a, row, column, length, j, p);
+            let minor = determinant(entries, lengths, tops, p, c, size - 1, row + 1, &left);
+            let entry = signed_entry(entries, row, column, length, j, p);
             add_product(&mut sums, &entry, length, &minor, tops[row + 1], c);
         }
     }
     residues(&sums, tops[row], p)
 }
 
-// The larger of a degree and the degree of an entry of the given length; an entry of length 0 counts as degree 0.
+// The larger of a power and the highest that an entry of the given length has room for.
 fn higher(top: usize, length: usize) -> usize
     ensures { λ r. ⌜ r ≡ max top (pred length) ⌝ }
 {
@@ -269,7 +278,7 @@ fn higher(top: usize, length: usize) -> usize
 }
 
 // lengths: how many coefficients each entry has. i: a row of the m × m matrix.
-// The highest degree in the row.
+// The highest power that an entry of the row has room for.
 fn row_top(lengths: &[usize; SQUARE], i: usize, m: usize) -> usize
     requires { ⌜ (i < most-rows) × (m ≤ most-rows) ⌝ }
     requires { ⌜ Each (most-length + 1) (now lengths) ⌝ }
@@ -283,7 +292,7 @@ fn row_top(lengths: &[usize; SQUARE], i: usize, m: usize) -> usize
 }
 
 // lengths: how many coefficients each entry of the m × m matrix has.
-// For each row the sum of the highest degrees of the rows from there on: no determinant of these rows has a higher power.
+// For each row the sum of the highest powers of the rows from there on: no determinant of these rows has a higher power.
 fn row_tops(lengths: &[usize; SQUARE], m: usize) -> [usize; ROWS]
     requires { ⌜ m ≤ most-rows ⌝ }
     requires { ⌜ Each (most-length + 1) (now lengths) ⌝ }
@@ -331,21 +340,21 @@ fn is_monomial(l: &[u32; CAPACITY], top: usize) -> bool
     n == 1
 }
 
-// a: the coefficients of an m × m matrix of polynomials modulo p, each below p, an entry's coefficients followed by zeros. lengths: how
-// many coefficients each entry has. p: from 2 to the largest prime that is allowed.
+// entries: the coefficients of an m × m matrix of polynomials modulo p, each below p, an entry's coefficients followed by zeros. lengths:
+// how many coefficients each entry has. p: from 2 to the largest prime that is allowed.
 // Whether the determinant of the matrix is a nonzero constant times a power of X.
 pub fn determinant_is_monomial(
-    a: &[u32; ENTRY_COEFFICIENTS],
+    entries: &[u32; ENTRY_COEFFICIENTS],
     lengths: &[usize; SQUARE],
     p: u32,
     m: usize,
 ) -> bool
-    requires { ⌜ Holds p m (now a) (now lengths) ⌝ }
-    ensures { λ r. ⌜ Settles (Monomial (K p) (det (Series (K p)) m (cells p (now (a .entry))))) r ⌝ }
+    requires { ⌜ Holds p m (now entries) (now lengths) ⌝ }
+    ensures { λ r. ⌜ Settles (Monomial (K p) (det (Series (K p)) m (cells p (now (entries .entry))))) r ⌝ }
 {
     let tops = row_tops(lengths, m);
     let columns = all_columns();
-    let c = (FOLD % p as u64) as u32;
-    let l = determinant(a, lengths, &tops, p, c, m, 0, &columns);
+    let c = cut_mod(p);
+    let l = determinant(entries, lengths, &tops, p, c, m, 0, &columns);
     is_monomial(&l, tops[0])
 }

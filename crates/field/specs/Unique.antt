@@ -2,6 +2,10 @@
 use mathlib.Core.Path.{_≡_, sym, _∙_}
 use Prim.Native.Nat.{ℕ, _+_, _-_, _*_, _%_}
 use Rattle.rules.specs.Inverse.{inverse}
+use Rattle.field.specs.Cut.{cut}
+
+pub cut-mod-unique : (p r s : ℕ) → r ≡ cut % p → s ≡ cut % p → r ≡ s
+cut-mod-unique p r s hr hs = hr ∙ sym hs
 
 pub add-mod-unique : (a b p r s : ℕ) → r ≡ (a + b) % p → s ≡ (a + b) % p → r ≡ s
 add-mod-unique a b p r s hr hs = hr ∙ sym hs

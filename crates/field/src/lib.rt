@@ -3,6 +3,19 @@ ghost use mathlib.Core.Path.{_≡_};
 ghost use Prim.Native.Nat.{_+_, _-_, _*_, _%_, _<_};
 ghost use Rattle.algebra.specs.Prime.{Prime};
 ghost use Rattle.rules.specs.Inverse.{inverse};
+ghost use Rattle.field.specs.Cut.{cut};
+
+// Where a sum of products is cut in two, so that it fits 64 bits: 2^40.
+pub const CUT: u64 = 1 << 40;
+
+// p: above 0.
+// 2^40 modulo p.
+pub fn cut_mod(p: u32) -> u32
+    requires { ⌜ 0 < p ⌝ }
+    ensures { λ r. ⌜ r ≡ cut % p ⌝ }
+{
+    (CUT % p as u64) as u32
+}
 
 // a and b: numbers below p.
 // Their sum modulo p.

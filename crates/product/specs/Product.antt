@@ -1,9 +1,8 @@
 -- Condition 3 over the flat arrays: the coefficients of P·F, as sums of products of numbers.
 --   flat-product             the coefficients of P·F modulo p
 --   product-number           the sum of products whose residue such a coefficient is
---   dot a f x y n            Σ_{s<n} a[x + s] · f[y − s]
---   Padded a lengths         the largest length of document 01, and that nothing stands past an entry's length
---   Factors p a lengths f    what the modulus and the two factors are
+--   dot entries f x y n      Σ_{s<n} entries[x + s] · f[y − s]
+--   Factors p entries lengths f    what the modulus and the two factors are
 --   pair-dot                 which of the products count
 --   product-residue          the residue of the sum of products is the coefficient
 use mathlib.Core.Path.{_≡_, sym, ap, ap₂, _∙_}
@@ -20,29 +19,23 @@ use Rattle.algebra.specs.Degree.{coefficient, coefficient-sum}
 use Rattle.algebra.specs.Matrix.{vmul, mmul}
 use Rattle.rules.specs.Conditions.{sum-below}
 use Rattle.rules.specs.Sizes.{largest-prime, most-rows, most-order, most-length}
-use Rattle.layout.specs.Flat.{entry-place, column-place, square-place, cell, column-cell, cells, column-cells, cell-at, column-cell-at, column-cell-past}
+use Rattle.layout.specs.Flat.{entry-place, column-place, square-place, length-at, cell, column-cell, cells, column-cells, cell-at, column-cell-at, column-cell-past}
+use Rattle.layout.specs.Holds.{Each, Padded}
 use Rattle.rules.specs.SumLaws.{sum-below-cong, sum-below-last, sum-window, red-sum}
-
--- How many coefficients the flat arrays hold.
-unfoldable pub entry-coefficients : ℕ
-entry-coefficients = most-rows * most-rows * most-length
-
-unfoldable pub column-coefficients : ℕ
-column-coefficients = most-rows * most-rows * most-order
 
 -- The coefficient at power k of the entry of P·F in row i and column j, modulo p.
 unfoldable pub flat-product : (p : ℕ) → List ℕ → List ℕ → ℕ → ℕ → ℕ → ℕ → Residue p
-flat-product p a f m i j k = mmul (Series (K p)) m (cells p a) (column-cells p f) i j k
+flat-product p entries f m i j k = mmul (Series (K p)) m (cells p entries) (column-cells p f) i j k
 
 -- The sum of products whose residue that is.
 unfoldable pub pair-number : List ℕ → List ℕ → ℕ → ℕ → ℕ → ℕ → ℕ
-pair-number a f i j k l = sum-below (suc k) (λ t. cell a i l t * column-cell f l j (k - t))
+pair-number entries f i j k l = sum-below (suc k) (λ t. cell entries i l t * column-cell f l j (k - t))
 
 unfoldable pub product-number : List ℕ → List ℕ → ℕ → ℕ → ℕ → ℕ → ℕ
-product-number a f m i j k = sum-below m (pair-number a f i j k)
+product-number entries f m i j k = sum-below m (pair-number entries f i j k)
 
 unfoldable pub dot : List ℕ → List ℕ → ℕ → ℕ → ℕ → ℕ
-dot a f x y n = sum-below n (λ s. getD a (x + s) 0 * getD f (y - s) 0)
+dot entries f x y n = sum-below n (λ s. getD entries (x + s) 0 * getD f (y - s) 0)
 
 -- The first power of an entry of P that has a partner in F for the power k, and how many there are.
 unfoldable pub first-power : ℕ → ℕ
@@ -51,23 +44,18 @@ first-power k = suc k - most-order
 unfoldable pub powers : ℕ → ℕ → ℕ
 powers n k = min n (suc k) - first-power k
 
--- Every entry of P has at most so many coefficients, and nothing stands past its length.
-pub record Padded (a lengths : List ℕ) : Type 0 where
-  pub length-most : (k : ℕ) → getD lengths k 0 ≤ most-length
-  pub past-length : (i j k : ℕ) → i < most-rows → j < most-rows → getD lengths (square-place i j) 0 ≤ k → cell a i j k ≡ 0
-
 -- What the modulus and the two factors are.
-pub record Factors (p : ℕ) (a lengths f : List ℕ) : Type 0 where
+pub record Factors (p : ℕ) (entries lengths f : List ℕ) : Type 0 where
   pub modulus-positive : 0 < p
   pub modulus-most : p ≤ largest-prime
-  pub entry-below : (k : ℕ) → getD a k 0 < p
-  pub column-below : (k : ℕ) → getD f k 0 < p
-  pub padded : Padded a lengths
+  pub entry-below : Each p entries
+  pub column-below : Each p f
+  pub padded : Padded most-rows entries lengths
 
 -- One product more.
-pub dot-more : (a f : List ℕ) (x y n : ℕ) → dot a f x y (n + 1) ≡ dot a f x y n + getD a (x + n) 0 * getD f (y - n) 0
+pub dot-more : (entries f : List ℕ) (x y n : ℕ) → dot entries f x y (n + 1) ≡ dot entries f x y n + getD entries (x + n) 0 * getD f (y - n) 0
 unfolding dot
-dot-more a f x y n = sum-below-last n (λ s. getD a (x + s) 0 * getD f (y - s) 0)
+dot-more entries f x y n = sum-below-last n (λ s. getD entries (x + s) 0 * getD f (y - s) 0)
 
 -- So many products there are at most.
 pub row-products : (l : ℕ) → l ≤ most-rows → l * most-length ≤ 2 ^ 10
@@ -97,29 +85,29 @@ order-within k s = omega arith
 
 entry-place-add : (i j k s : ℕ) → entry-place i j (k + s) ≡ entry-place i j k + s
 unfolding entry-place
-entry-place-add i j k s = sym (add-assoc ((i * most-rows + j) * most-length) k s)
+entry-place-add i j k s = sym (add-assoc (square-place i j * most-length) k s)
 
 column-place-sub : (i j k d s : ℕ) → d + s ≤ k → column-place i j (k - (d + s)) ≡ column-place i j (k - d) - s
 unfolding column-place
 column-place-sub i j k d s h = omega arith
 
 -- The powers that count are those of the entry that go with a coefficient of F.
-pub pair-dot : (a lengths f : List ℕ) → Padded a lengths → (i j k l : ℕ) → i < most-rows → l < most-rows → k ≤ most-order
-    → pair-number a f i j k l
-    ≡ dot a f (entry-place i l (first-power k)) (column-place l j (k - first-power k)) (powers (getD lengths (square-place i l) 0) k)
+pub pair-dot : (entries lengths f : List ℕ) → Padded most-rows entries lengths → (i j k l : ℕ) → i < most-rows → l < most-rows → k ≤ most-order
+    → pair-number entries f i j k l
+    ≡ dot entries f (entry-place i l (first-power k)) (column-place l j (k - first-power k)) (powers (length-at lengths i l) k)
 unfolding pair-number dot
-pair-dot a lengths f padded i j k l hi hl hk =
-    sum-window (suc k) first count (λ t. cell a i l t * column-cell f l j (k - t)) (powers-end n k)
-    (λ t b. ap (λ x. cell a i l t * x) (column-cell-past f l j (k - t) (first-past k t b)) ∙ mul-zero (cell a i l t))
+pair-dot entries lengths f padded i j k l hi hl hk =
+    sum-window (suc k) first count (λ t. cell entries i l t * column-cell f l j (k - t)) (powers-end n k)
+    (λ t b. ap (λ x. cell entries i l t * x) (column-cell-past f l j (k - t) (first-past k t b)) ∙ mul-zero (cell entries i l t))
     (λ t b h. ap (λ x. x * column-cell f l j (k - t)) (padded .past-length i l t hi hl (powers-past n k t b h)) ∙ zero-mul (column-cell f l j (k - t)))
-    ∙ sum-below-cong count (λ s. cell a i l (first + s) * column-cell f l j (k - (first + s)))
-    (λ s. getD a (entry-place i l first + s) 0 * getD f (column-place l j (k - first) - s) 0)
+    ∙ sum-below-cong count (λ s. cell entries i l (first + s) * column-cell f l j (k - (first + s)))
+    (λ s. getD entries (entry-place i l first + s) 0 * getD f (column-place l j (k - first) - s) 0)
     (λ s b. ap₂ _*_
-    (cell-at a i l (first + s) (within-length s b) ∙ ap (λ x. getD a x 0) (entry-place-add i l first s))
+    (cell-at entries i l (first + s) (within-length s b) ∙ ap (λ x. getD entries x 0) (entry-place-add i l first s))
     (column-cell-at f l j (k - (first + s)) (within-order s) ∙ ap (λ x. getD f x 0) (column-place-sub l j k first s (within-power s b))))
   where
     n : ℕ
-    n = getD lengths (square-place i l) 0
+    n = length-at lengths i l
 
     first : ℕ
     first = first-power k
@@ -137,17 +125,17 @@ pair-dot a lengths f padded i j k l hi hl hk =
     within-order s = order-within k s
 
 -- The residue of the sum of products is the coefficient.
-pub product-residue : (p : ℕ) (a f : List ℕ) (m i j k : ℕ) → red p (product-number a f m i j k) ≡ flat-product p a f m i j k
+pub product-residue : (p : ℕ) (entries f : List ℕ) (m i j k : ℕ) → red p (product-number entries f m i j k) ≡ flat-product p entries f m i j k
 unfolding product-number pair-number flat-product mmul vmul coefficient
-product-residue p a f m i j k =
-    red-sum p m (λ l. sum-below (suc k) (λ t. cell a i l t * column-cell f l j (k - t)))
-    ∙ sum-cong (K p) m (λ l. red p (sum-below (suc k) (λ t. cell a i l t * column-cell f l j (k - t))))
-    (λ l. convolve (K p) (cells p a i l) (column-cells p f l j) k) (λ l b. at l)
-    ∙ sym (coefficient-sum (K p) (pos k) m (λ l. convolve (K p) (cells p a i l) (column-cells p f l j)))
+product-residue p entries f m i j k =
+    red-sum p m (λ l. sum-below (suc k) (λ t. cell entries i l t * column-cell f l j (k - t)))
+    ∙ sum-cong (K p) m (λ l. red p (sum-below (suc k) (λ t. cell entries i l t * column-cell f l j (k - t))))
+    (λ l. convolve (K p) (cells p entries i l) (column-cells p f l j) k) (λ l b. at l)
+    ∙ sym (coefficient-sum (K p) (pos k) m (λ l. convolve (K p) (cells p entries i l) (column-cells p f l j)))
   where
-    at : (l : ℕ) → red p (sum-below (suc k) (λ t. cell a i l t * column-cell f l j (k - t))) ≡ convolve (K p) (cells p a i l) (column-cells p f l j) k
+    at : (l : ℕ) → red p (sum-below (suc k) (λ t. cell entries i l t * column-cell f l j (k - t))) ≡ convolve (K p) (cells p entries i l) (column-cells p f l j) k
     at l =
-        red-sum p (suc k) (λ t. cell a i l t * column-cell f l j (k - t))
-        ∙ sum-cong (K p) (suc k) (λ t. red p (cell a i l t * column-cell f l j (k - t)))
-        (λ t. K p ._⊗_ (cells p a i l t) (column-cells p f l j (k - t))) (λ t b. red-mul p (cell a i l t) (column-cell f l j (k - t)))
-        ∙ sym (convolve-sum (K p) (cells p a i l) (column-cells p f l j) k)
+        red-sum p (suc k) (λ t. cell entries i l t * column-cell f l j (k - t))
+        ∙ sum-cong (K p) (suc k) (λ t. red p (cell entries i l t * column-cell f l j (k - t)))
+        (λ t. K p ._⊗_ (cells p entries i l t) (column-cells p f l j (k - t))) (λ t b. red-mul p (cell entries i l t) (column-cell f l j (k - t)))
+        ∙ sym (convolve-sum (K p) (cells p entries i l) (column-cells p f l j) k)

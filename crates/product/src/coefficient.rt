@@ -2,8 +2,12 @@
 ghost use mathlib.Core.Path.{_≡_};
 ghost use Prim.Native.Nat.{_+_, _*_, _-_, _%_, _^_, _<_, _≤_};
 ghost use Rattle.rules.specs.Sizes.{most-rows, most-order, most-length};
-ghost use Rattle.product.specs.Total.{Small, Grown, Within, Summed};
-ghost use Rattle.product.specs.Product.{Padded, Factors, dot, first-power, powers, pair-number, product-number, flat-product, entry-coefficients, column-coefficients};
+ghost use Rattle.field.specs.Cut.{cut};
+ghost use Rattle.layout.specs.Flat.{entry-coefficients, column-coefficients};
+ghost use Rattle.layout.specs.Holds.{Each, Padded};
+ghost use Rattle.product.specs.Total.{Grown, Within, Summed};
+ghost use Rattle.product.specs.Product.{Factors, dot, first-power, powers, pair-number, product-number, flat-product};
+use field::CUT;
 use layout::COLUMN_COEFFICIENTS;
 use layout::ENTRY_COEFFICIENTS;
 use layout::ORDER;
@@ -12,10 +16,7 @@ use layout::column_place;
 use layout::entry_place;
 use layout::square_place;
 
-// Where a product of two coefficients is cut in two, so that sums of the parts fit: 2^40.
-const CUT: u64 = 1099511627776;
-
-// A sum of products: high · 2^40 + low.
+// A sum of products, each cut in two, so that sums of the parts fit: high · 2^40 + low.
 struct Total {
     high: u64,
     low: u64,
@@ -29,26 +30,26 @@ fn wide(x: u32) -> u64
     x as u64
 }
 
-// total: a sum. x, y: places in a and f, from which one goes up and the other down. count: how far.
+// total: a sum. x, y: places in entries and f, from which one goes up and the other down. count: how far.
 // The sum with the products of the coefficients there added.
 fn add_products<'a>(
     total: Total,
-    a: &'a [u32; ENTRY_COEFFICIENTS],
+    entries: &'a [u32; ENTRY_COEFFICIENTS],
     f: &'a [u32; COLUMN_COEFFICIENTS],
     x: usize,
     y: usize,
     count: usize,
 ) -> Total
-    requires { ⌜ Small (now a) × Small (now f) ⌝ }
+    requires { ⌜ Each (2 ^ 31) (now entries) × Each (2 ^ 31) (now f) ⌝ }
     requires { ⌜ Within (2 ^ 10) (total .high) (total .low) ⌝ }
     requires { ⌜ (x + count ≤ entry-coefficients) × ((y < column-coefficients) × ((count ≤ y + 1) × (count ≤ 2 ^ 10))) ⌝ }
-    ensures { λ r. ⌜ Grown count (total .high) (total .low) (dot (now (a .entry)) (now (f .entry)) x y count) (r .high) (r .low) ⌝ }
+    ensures { λ r. ⌜ Grown count (total .high) (total .low) (dot (now (entries .entry)) (now (f .entry)) x y count) (r .high) (r .low) ⌝ }
 {
     let mut high = total.high;
     let mut low = total.low;
     let mut t = 0;
     while t < count {
-        let product = wide(a[x + t]) * wide(f[y - t]);
+        let product = wide(entries[x + t]) * wide(f[y - t]);
         high += product / CUT;
         low += product % CUT;
         t += 1;
@@ -81,11 +82,11 @@ fn powers(length: usize, k: usize) -> usize
     }
 }
 
-// total: a sum. a, lengths, f: of P and F. i, l, j: a row of P, its column and so the row of F, and a column of F. k: a power.
+// total: a sum. entries, lengths, f: of P and F. i, l, j: a row of P, its column and so the row of F, and a column of F. k: a power.
 // The sum with the products added that the entries of P and F there give to the power k.
 fn add_entry<'a>(
     total: Total,
-    a: &'a [u32; ENTRY_COEFFICIENTS],
+    entries: &'a [u32; ENTRY_COEFFICIENTS],
     lengths: &'a [usize; SQUARE],
     f: &'a [u32; COLUMN_COEFFICIENTS],
     i: usize,
@@ -93,22 +94,22 @@ fn add_entry<'a>(
     j: usize,
     k: usize,
 ) -> Total
-    requires { ⌜ Small (now a) × (Small (now f) × Padded (now a) (now lengths)) ⌝ }
+    requires { ⌜ Each (2 ^ 31) (now entries) × (Each (2 ^ 31) (now f) × Padded most-rows (now entries) (now lengths)) ⌝ }
     requires { ⌜ Within (2 ^ 10) (total .high) (total .low) ⌝ }
     requires { ⌜ (i < most-rows) × ((l < most-rows) × ((j < most-rows) × (k ≤ most-order))) ⌝ }
-    ensures { λ r. ⌜ Grown most-length (total .high) (total .low) (pair-number (now (a .entry)) (now (f .entry)) i j k l) (r .high) (r .low) ⌝ }
+    ensures { λ r. ⌜ Grown most-length (total .high) (total .low) (pair-number (now (entries .entry)) (now (f .entry)) i j k l) (r .high) (r .low) ⌝ }
 {
     let first = first_power(k);
     let count = powers(lengths[square_place(i, l)], k);
     let x = entry_place(i, l, first);
     let y = column_place(l, j, k - first);
-    add_products(total, a, f, x, y, count)
+    add_products(total, entries, f, x, y, count)
 }
 
-// a, lengths, f, m: of P and F. i, j: a row and a column. k: a power, at most the largest order.
+// entries, lengths, f, m: of P and F. i, j: a row and a column. k: a power, at most the largest order.
 // The sum of the products that make the coefficient of P·F there at that power.
 fn entry_total<'a>(
-    a: &'a [u32; ENTRY_COEFFICIENTS],
+    entries: &'a [u32; ENTRY_COEFFICIENTS],
     lengths: &'a [usize; SQUARE],
     f: &'a [u32; COLUMN_COEFFICIENTS],
     m: usize,
@@ -116,14 +117,14 @@ fn entry_total<'a>(
     j: usize,
     k: usize,
 ) -> Total
-    requires { ⌜ Small (now a) × (Small (now f) × Padded (now a) (now lengths)) ⌝ }
+    requires { ⌜ Each (2 ^ 31) (now entries) × (Each (2 ^ 31) (now f) × Padded most-rows (now entries) (now lengths)) ⌝ }
     requires { ⌜ (m ≤ most-rows) × ((i < most-rows) × ((j < most-rows) × (k ≤ most-order))) ⌝ }
-    ensures { λ r. ⌜ Summed (most-rows * most-length) (product-number (now (a .entry)) (now (f .entry)) m i j k) (r .high) (r .low) ⌝ }
+    ensures { λ r. ⌜ Summed (most-rows * most-length) (product-number (now (entries .entry)) (now (f .entry)) m i j k) (r .high) (r .low) ⌝ }
 {
     let mut total = Total { high: 0, low: 0 };
     let mut l = 0;
     while l < m {
-        let next = add_entry(total, a, lengths, f, i, l, j, k);
+        let next = add_entry(total, entries, lengths, f, i, l, j, k);
         total = next;
         l += 1;
     }
@@ -132,62 +133,34 @@ fn entry_total<'a>(
 
 // total: a sum of products. p: the modulus. fold: 2^40 modulo p.
 // The sum modulo p.
-fn residue(total: Total, p: u32, fold: u64) -> u32
+fn residue(total: Total, p: u32, fold: u32) -> u32
     requires { ⌜ (0 < p) × (p < 2 ^ 31) ⌝ }
     requires { ⌜ Within (2 ^ 10) (total .high) (total .low) ⌝ }
-    requires { ⌜ fold ≡ 2 ^ 40 % p ⌝ }
-    ensures { λ r. ⌜ r ≡ (total .high * 2 ^ 40 + total .low) % p ⌝ }
+    requires { ⌜ fold ≡ cut % p ⌝ }
+    ensures { λ r. ⌜ r ≡ (total .high * cut + total .low) % p ⌝ }
 {
-    let folded = total.high * fold + total.low;
+    let folded = total.high * wide(fold) + total.low;
     (folded % wide(p)) as u32
 }
 
-// a, lengths, f, p, m: of P and F. fold: 2^40 modulo p. i, j: a row and a column. k: a power, at most the largest order.
+// entries, lengths, f, p, m: of P and F. fold: 2^40 modulo p. i, j: a row and a column. k: a power, at most the largest order.
 // The coefficient of P·F there at that power, modulo p.
 pub(crate) fn coefficient<'a>(
-    a: &'a [u32; ENTRY_COEFFICIENTS],
+    entries: &'a [u32; ENTRY_COEFFICIENTS],
     lengths: &'a [usize; SQUARE],
     f: &'a [u32; COLUMN_COEFFICIENTS],
     p: u32,
-    fold: u64,
+    fold: u32,
     m: usize,
     i: usize,
     j: usize,
     k: usize,
 ) -> u32
-    requires { ⌜ Factors p (now a) (now lengths) (now f) ⌝ }
+    requires { ⌜ Factors p (now entries) (now lengths) (now f) ⌝ }
     requires { ⌜ (m ≤ most-rows) × ((i < most-rows) × ((j < most-rows) × (k ≤ most-order))) ⌝ }
-    requires { ⌜ fold ≡ 2 ^ 40 % p ⌝ }
-    ensures { λ r. ⌜ r ≡ flat-product p (now (a .entry)) (now (f .entry)) m i j k .0 ⌝ }
+    requires { ⌜ fold ≡ cut % p ⌝ }
+    ensures { λ r. ⌜ r ≡ flat-product p (now (entries .entry)) (now (f .entry)) m i j k .0 ⌝ }
 {
-    let total = entry_total(a, lengths, f, m, i, j, k);
+    let total = entry_total(entries, lengths, f, m, i, j, k);
     residue(total, p, fold)
-}
-
-// p: the modulus.
-// 2^40 modulo p.
-pub(crate) fn fold_of(p: u32) -> u64
-    requires { ⌜ 0 < p ⌝ }
-    ensures { λ r. ⌜ r ≡ 2 ^ 40 % p ⌝ }
-{
-    CUT % wide(p)
-}
-
-// a, lengths, f, p, m: of P and F. i, j: a row and a column. k: a power, at most the largest order.
-// The coefficient of P·F there at that power, modulo p.
-pub fn product_coefficient<'a>(
-    a: &'a [u32; ENTRY_COEFFICIENTS],
-    lengths: &'a [usize; SQUARE],
-    f: &'a [u32; COLUMN_COEFFICIENTS],
-    p: u32,
-    m: usize,
-    i: usize,
-    j: usize,
-    k: usize,
-) -> u32
-    requires { ⌜ Factors p (now a) (now lengths) (now f) ⌝ }
-    requires { ⌜ (m ≤ most-rows) × ((i < most-rows) × ((j < most-rows) × (k ≤ most-order))) ⌝ }
-    ensures { λ r. ⌜ r ≡ flat-product p (now (a .entry)) (now (f .entry)) m i j k .0 ⌝ }
-{
-    coefficient(a, lengths, f, p, fold_of(p), m, i, j, k)
 }

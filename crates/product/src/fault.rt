@@ -10,24 +10,23 @@ ghost use Rattle.product.specs.Product.{Factors, flat-product};
 ghost use Rattle.product.specs.Faults.{flat-low-fault, flat-order-fault, flat-fault, place-of};
 ghost use Rattle.product.specs.Search.{First};
 use crate::coefficient::coefficient;
-use crate::coefficient::fold_of;
-use crate::coefficient::product_coefficient;
+use field::cut_mod;
 use layout::COLUMN_COEFFICIENTS;
 use layout::ENTRY_COEFFICIENTS;
 use layout::ROWS;
 use layout::SQUARE;
 use layout::square_place;
 
-// A row and a column, or none.
-pub enum Place {
+// The row and the column of a fault, or none.
+pub enum FirstFault {
     At(usize, usize),
     Nowhere,
 }
 
-// a, lengths, f, orders, p, m: of P and F. i, j: a row and a column.
+// entries, lengths, f, orders, p, m: of P and F. i, j: a row and a column.
 // Whether some coefficient of P·F there below the column's order is not 0.
-pub fn low_fault<'a>(
-    a: &'a [u32; ENTRY_COEFFICIENTS],
+fn low_fault<'a>(
+    entries: &'a [u32; ENTRY_COEFFICIENTS],
     lengths: &'a [usize; SQUARE],
     f: &'a [u32; COLUMN_COEFFICIENTS],
     orders: [usize; ROWS],
@@ -36,16 +35,16 @@ pub fn low_fault<'a>(
     i: usize,
     j: usize,
 ) -> bool
-    requires { ⌜ Factors p (now a) (now lengths) (now f) ⌝ }
+    requires { ⌜ Factors p (now entries) (now lengths) (now f) ⌝ }
     requires { ⌜ Ordered orders ⌝ }
     requires { ⌜ (m ≤ most-rows) × ((i < most-rows) × (j < most-rows)) ⌝ }
-    ensures { λ r. ⌜ r ≡ flat-low-fault p (now (a .entry)) (now (f .entry)) m orders i j ⌝ }
+    ensures { λ r. ⌜ r ≡ flat-low-fault p (now (entries .entry)) (now (f .entry)) m orders i j ⌝ }
 {
     let order = orders[j];
-    let fold = fold_of(p);
+    let fold = cut_mod(p);
     let mut k = 0;
     while k < order {
-        if coefficient(a, lengths, f, p, fold, m, i, j, k) != 0 {
+        if coefficient(entries, lengths, f, p, fold, m, i, j, k) != 0 {
             return true;
         }
         k += 1;
@@ -53,10 +52,10 @@ pub fn low_fault<'a>(
     false
 }
 
-// a, lengths, f, orders, p, m: of P and F. i, j: a row and a column.
+// entries, lengths, f, orders, p, m: of P and F. i, j: a row and a column.
 // The coefficient of P·F there at the column's order, modulo p: the number of C that is due, and that of the evidence.
 pub fn order_coefficient<'a>(
-    a: &'a [u32; ENTRY_COEFFICIENTS],
+    entries: &'a [u32; ENTRY_COEFFICIENTS],
     lengths: &'a [usize; SQUARE],
     f: &'a [u32; COLUMN_COEFFICIENTS],
     orders: [usize; ROWS],
@@ -65,18 +64,18 @@ pub fn order_coefficient<'a>(
     i: usize,
     j: usize,
 ) -> u32
-    requires { ⌜ Factors p (now a) (now lengths) (now f) ⌝ }
+    requires { ⌜ Factors p (now entries) (now lengths) (now f) ⌝ }
     requires { ⌜ Ordered orders ⌝ }
     requires { ⌜ (m ≤ most-rows) × ((i < most-rows) × (j < most-rows)) ⌝ }
-    ensures { λ r. ⌜ r ≡ flat-product p (now (a .entry)) (now (f .entry)) m i j (getD orders j 0) .0 ⌝ }
+    ensures { λ r. ⌜ r ≡ flat-product p (now (entries .entry)) (now (f .entry)) m i j (getD orders j 0) .0 ⌝ }
 {
-    product_coefficient(a, lengths, f, p, m, i, j, orders[j])
+    coefficient(entries, lengths, f, p, cut_mod(p), m, i, j, orders[j])
 }
 
-// a, lengths, f, orders, c, p, m: of P, F and C. i, j: a row and a column.
+// entries, lengths, f, orders, c, p, m: of P, F and C. i, j: a row and a column.
 // Whether the coefficient of P·F there at the column's order differs from C's number.
-pub fn order_fault<'a>(
-    a: &'a [u32; ENTRY_COEFFICIENTS],
+fn order_fault<'a>(
+    entries: &'a [u32; ENTRY_COEFFICIENTS],
     lengths: &'a [usize; SQUARE],
     f: &'a [u32; COLUMN_COEFFICIENTS],
     orders: [usize; ROWS],
@@ -86,20 +85,20 @@ pub fn order_fault<'a>(
     i: usize,
     j: usize,
 ) -> bool
-    requires { ⌜ Factors p (now a) (now lengths) (now f) ⌝ }
+    requires { ⌜ Factors p (now entries) (now lengths) (now f) ⌝ }
     requires { ⌜ Ordered orders ⌝ }
     requires { ⌜ (m ≤ most-rows) × ((i < most-rows) × (j < most-rows)) ⌝ }
-    ensures { λ r. ⌜ r ≡ flat-order-fault p (now (a .entry)) (now (f .entry)) m orders (now (c .entry)) i j ⌝ }
+    ensures { λ r. ⌜ r ≡ flat-order-fault p (now (entries .entry)) (now (f .entry)) m orders (now (c .entry)) i j ⌝ }
 {
-    let due = order_coefficient(a, lengths, f, orders, p, m, i, j);
+    let due = order_coefficient(entries, lengths, f, orders, p, m, i, j);
     let given = c[square_place(i, j)];
     due != given
 }
 
-// a, lengths, f, orders, c, p, m: of P, F and C. at_order: which of the two tests. i, j: a row and a column.
+// entries, lengths, f, orders, c, p, m: of P, F and C. at_order: which of the two tests. i, j: a row and a column.
 // Whether there is a fault there.
 fn fault<'a>(
-    a: &'a [u32; ENTRY_COEFFICIENTS],
+    entries: &'a [u32; ENTRY_COEFFICIENTS],
     lengths: &'a [usize; SQUARE],
     f: &'a [u32; COLUMN_COEFFICIENTS],
     orders: [usize; ROWS],
@@ -110,22 +109,22 @@ fn fault<'a>(
     i: usize,
     j: usize,
 ) -> bool
-    requires { ⌜ Factors p (now a) (now lengths) (now f) ⌝ }
+    requires { ⌜ Factors p (now entries) (now lengths) (now f) ⌝ }
     requires { ⌜ Ordered orders ⌝ }
     requires { ⌜ (m ≤ most-rows) × ((i < most-rows) × (j < most-rows)) ⌝ }
-    ensures { λ r. ⌜ r ≡ flat-fault «at_order» p (now (a .entry)) (now (f .entry)) m orders (now (c .entry)) i j ⌝ }
+    ensures { λ r. ⌜ r ≡ flat-fault «at_order» p (now (entries .entry)) (now (f .entry)) m orders (now (c .entry)) i j ⌝ }
 {
     if at_order {
-        order_fault(a, lengths, f, orders, c, p, m, i, j)
+        order_fault(entries, lengths, f, orders, c, p, m, i, j)
     } else {
-        low_fault(a, lengths, f, orders, p, m, i, j)
+        low_fault(entries, lengths, f, orders, p, m, i, j)
     }
 }
 
-// a, lengths, f, orders, c, p, m, n: of P, F and C. at_order: which of the two tests. i: a row.
+// entries, lengths, f, orders, c, p, m, n: of P, F and C. at_order: which of the two tests. i: a row.
 // The first column with a fault in that row, or n.
 fn fault_column<'a>(
-    a: &'a [u32; ENTRY_COEFFICIENTS],
+    entries: &'a [u32; ENTRY_COEFFICIENTS],
     lengths: &'a [usize; SQUARE],
     f: &'a [u32; COLUMN_COEFFICIENTS],
     orders: [usize; ROWS],
@@ -136,14 +135,14 @@ fn fault_column<'a>(
     at_order: bool,
     i: usize,
 ) -> usize
-    requires { ⌜ Factors p (now a) (now lengths) (now f) ⌝ }
+    requires { ⌜ Factors p (now entries) (now lengths) (now f) ⌝ }
     requires { ⌜ Ordered orders ⌝ }
     requires { ⌜ (m ≤ most-rows) × ((n ≤ most-rows) × (i < most-rows)) ⌝ }
-    ensures { λ r. ⌜ First n (flat-fault «at_order» p (now (a .entry)) (now (f .entry)) m orders (now (c .entry)) i) r ⌝ }
+    ensures { λ r. ⌜ First n (flat-fault «at_order» p (now (entries .entry)) (now (f .entry)) m orders (now (c .entry)) i) r ⌝ }
 {
     let mut j = 0;
     while j < n {
-        if fault(a, lengths, f, orders, c, p, m, at_order, i, j) {
+        if fault(entries, lengths, f, orders, c, p, m, at_order, i, j) {
             return j;
         }
         j += 1;
@@ -151,10 +150,10 @@ fn fault_column<'a>(
     n
 }
 
-// a, lengths, f, orders, c, p, m, n: of P, F and C. at_order: which of the two tests.
+// entries, lengths, f, orders, c, p, m, n: of P, F and C. at_order: which of the two tests.
 // "the first row that has a fault and in it the first column".
 pub fn first_fault<'a>(
-    a: &'a [u32; ENTRY_COEFFICIENTS],
+    entries: &'a [u32; ENTRY_COEFFICIENTS],
     lengths: &'a [usize; SQUARE],
     f: &'a [u32; COLUMN_COEFFICIENTS],
     orders: [usize; ROWS],
@@ -163,19 +162,19 @@ pub fn first_fault<'a>(
     m: usize,
     n: usize,
     at_order: bool,
-) -> Place
-    requires { ⌜ Factors p (now a) (now lengths) (now f) ⌝ }
+) -> FirstFault
+    requires { ⌜ Factors p (now entries) (now lengths) (now f) ⌝ }
     requires { ⌜ Ordered orders ⌝ }
     requires { ⌜ (m ≤ most-rows) × (n ≤ most-rows) ⌝ }
-    ensures { λ r. ⌜ r ≡ place-of (first-place m n (flat-fault «at_order» p (now (a .entry)) (now (f .entry)) m orders (now (c .entry)))) ⌝ }
+    ensures { λ r. ⌜ r ≡ place-of (first-place m n (flat-fault «at_order» p (now (entries .entry)) (now (f .entry)) m orders (now (c .entry)))) ⌝ }
 {
     let mut i = 0;
     while i < m {
-        let j = fault_column(a, lengths, f, orders, c, p, m, n, at_order, i);
+        let j = fault_column(entries, lengths, f, orders, c, p, m, n, at_order, i);
         if j < n {
-            return Place::At(i, j);
+            return FirstFault::At(i, j);
         }
         i += 1;
     }
-    Place::Nowhere
+    FirstFault::Nowhere
 }

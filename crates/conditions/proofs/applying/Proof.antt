@@ -1,7 +1,6 @@
 use borrow.Author.Needs.{needs}
-use native.Mathlib.Omega.{arith}
 use denote.Ref.{now}
-use Rattle.rules.specs.Sizes.{most-rows}
+use Rattle.layout.specs.Holds.{padded-fewer}
 use Rattle.conditions.specs.Held.{Arrays, arrays}
 use Rattle.conditions.specs.Findings.{found-as, found-not-reduced, found-not-monomial, found-below, found-at, found-low-rank, found-nothing}
 use Rattle.conditions.proofs.applying.Statement.{statement}
@@ -23,7 +22,6 @@ fault-if-requires : tie.Need-fault-if-requires
 fault-if-requires c κs = search needs
 
 determinant-is-monomial-requires : tie.Need-determinant-is-monomial-requires
-unfolding most-rows
 determinant-is-monomial-requires c κs =
     let pre = c .before .pre in
     record {
@@ -32,8 +30,7 @@ determinant-is-monomial-requires c κs =
       some-row = pre .rows-least;
       few-rows = pre .rows-most;
       below = pre .factors .entry-below;
-      short = pre .factors .padded .length-most;
-      zeros = λ i j k hi hj h. pre .factors .padded .past-length i j k (omega (arith, pre .rows-most)) (omega (arith, pre .rows-most)) h;
+      padded = padded-fewer (pre .rows-most) (pre .factors .padded);
     }
 
 fault-if-requires-2 : tie.Need-fault-if-requires-2

@@ -94,7 +94,7 @@ determinant-signed-entry-requires : (t : ℕ) → determinant-lts.Need-signed-en
 determinant-signed-entry-requires t c κs =
     let start = c .before .before .before in
     let asked = start .pre .1 in
-    let short = asked .holds .short (square-place (start .args .row) (getD (start .args .columns .now) 0 0)) in
+    let short = asked .holds .padded .length-most (square-place (start .args .row) (getD (start .args .columns .now) 0 0)) in
     ((asked-row asked, (asked-column asked {j = 0} (omega arith), omega (arith, c .entry-length .ensures, short))), asked .holds .below)
 
 determinant-expand-row-requires : (t : ℕ) → determinant-lts.Need-expand-row-requires (determinant-calls t) (determinant-at t) determinant.Post
@@ -109,19 +109,19 @@ determinant-returns t c =
     let a = c .before .before .before .before .args in
     let l = c .signed-entry .result in
     let one = c .before .before .before .if1 .taken in
-    let asked = subst (λ n. Asked (a .p) (a .c) n (a .row) (a .a .now) (a .lengths .now) (a .tops .now) (a .columns .now)) one (c .before .before .before .before .pre .1) in
-    let entry = subst (λ n. SignedEntry (a .p) (a .row) (getD (a .columns .now) 0 0) n 0 (a .a .now) l) (c .before .entry-length .ensures) (c .signed-entry .ensures) in
-    subst (λ n. Determinant (a .p) n (a .row) (a .a .now) (a .tops .now) (a .columns .now) l) (sym one) (determinant-one asked entry)
+    let asked = subst (λ n. Asked (a .p) (a .c) n (a .row) (a .entries .now) (a .lengths .now) (a .tops .now) (a .columns .now)) one (c .before .before .before .before .pre .1) in
+    let entry = subst (λ n. SignedEntry (a .p) (a .row) (getD (a .columns .now) 0 0) n 0 (a .entries .now) l) (c .before .entry-length .ensures) (c .signed-entry .ensures) in
+    subst (λ n. Determinant (a .p) n (a .row) (a .entries .now) (a .tops .now) (a .columns .now) l) (sym one) (determinant-one asked entry)
 
 determinant-returns-2 : (t : ℕ) → determinant-lts.Need-returns-2 (determinant-calls t) (determinant-at t) determinant.Post
 determinant-returns-2 t c = c .expand-row .ensures
 
 -- The sums hold the first j terms of the expansion.
 abbrev expand-row-Inv-loop : expand-row-lts.InvT-loop
-expand-row-Inv-loop a lengths tops p c size row columns sums₀ j₀ sums j = (j ≤ size) × ((lib.ListN.length sums ≡ capacity) × Expanded p row (size - 1) j a tops columns sums)
+expand-row-Inv-loop entries lengths tops p c size row columns sums₀ j₀ sums j = (j ≤ size) × ((lib.ListN.length sums ≡ capacity) × Expanded p row (size - 1) j entries tops columns sums)
 
 abbrev expand-row-μ-loop : expand-row-lts.MeasureT-loop
-expand-row-μ-loop a lengths tops p c size row columns sums₀ j₀ sums j = size - j
+expand-row-μ-loop entries lengths tops p c size row columns sums₀ j₀ sums j = size - j
 
 expand-row-no-sums-requires : (t : ℕ)
     → expand-row-lts.Need-no-sums-requires (expand-row-calls t) (expand-row-at t) expand-row.Post expand-row-Inv-loop expand-row-μ-loop
@@ -132,11 +132,11 @@ expand-row-loop-holds : (t : ℕ)
 expand-row-loop-holds t c =
     let a = c .before .args in
     let sums = c .no-sums .ensures in
-    let start = expanded-none (a .p) (a .row) (a .size - 1) (a .a .now) (a .tops .now) (a .columns .now) in (
+    let start = expanded-none (a .p) (a .row) (a .size - 1) (a .entries .now) (a .tops .now) (a .columns .now) in (
       omega arith,
       (
         ap lib.ListN.length sums ∙ length-replicate {A = ℕ} capacity 0,
-        subst (Expanded (a .p) (a .row) (a .size - 1) 0 (a .a .now) (a .tops .now) (a .columns .now)) (sym sums) start,
+        subst (Expanded (a .p) (a .row) (a .size - 1) 0 (a .entries .now) (a .tops .now) (a .columns .now)) (sym sums) start,
       ),
     )
 
@@ -186,7 +186,7 @@ expand-row-signed-entry-requires t c κs =
     let start = c .before .before .before .before .before .before .before .before .before in
     let asked = start .pre .1 .0 in
     let j = c .before .before .before .before .before .before .before .loop .j in
-    let short = asked .holds .short (square-place (start .args .row) (getD (start .args .columns .now) j 0)) in
+    let short = asked .holds .padded .length-most (square-place (start .args .row) (getD (start .args .columns .now) j 0)) in
     let length = c .before .before .before .before .entry-length in
     ((asked-row asked, (asked-column asked {j = j} (omega arith), omega (arith, length .ensures, short))), asked .holds .below)
 
@@ -238,7 +238,7 @@ expand-row-loop-again t c =
     let loop = c .before .before .before .before .loop in
     let length = c .before .entry-length in
     let turn : loop .j < suc (a .size - 1) = omega arith in
-    let done = Expanded (a .p) (a .row) (a .size - 1) (loop .j + 1) (a .a .now) (a .tops .now) (a .columns .now) in (
+    let done = Expanded (a .p) (a .row) (a .size - 1) (loop .j + 1) (a .entries .now) (a .tops .now) (a .columns .now) in (
       omega arith,
       ⊎-elim
           (λ w. (
@@ -278,8 +278,8 @@ expand-row-returns t c =
     let l = c .residues .result in
     let size : suc (a .size - 1) ≡ a .size = omega (arith, asked .some) in
     let end : loop .j ≡ suc (a .size - 1) = omega arith in
-    let done = subst (λ j. Expanded (a .p) (a .row) (a .size - 1) j (a .a .now) (a .tops .now) (a .columns .now) (loop .sums)) end (loop .inv .1 .1) in
-    subst (λ n. Determinant (a .p) n (a .row) (a .a .now) (a .tops .now) (a .columns .now) l) size (expanded-all (asked-suc asked) done (c .residues .ensures))
+    let done = subst (λ j. Expanded (a .p) (a .row) (a .size - 1) j (a .entries .now) (a .tops .now) (a .columns .now) (loop .sums)) end (loop .inv .1 .1) in
+    subst (λ n. Determinant (a .p) n (a .row) (a .entries .now) (a .tops .now) (a .columns .now) l) size (expanded-all (asked-suc asked) done (c .residues .ensures))
 
 pub +determinant+expand-row-spec : {M : Type 1} → statement M
 +determinant+expand-row-spec = close μ-determinant μ-expand-row (λ t. determinant-lts.spec (determinant-calls t)

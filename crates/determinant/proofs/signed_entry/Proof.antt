@@ -11,10 +11,10 @@ use Rattle.determinant.proofs.signed_entry.Statement.{statement}
 use Rattle.determinant.proofs.signed_entry.Tie as tie
 
 abbrev Inv-loop : tie.InvT-loop
-Inv-loop a row column count j p l₀ k₀ l k = (k ≤ count) × ((lib.ListN.length l ≡ capacity) × Filled k (SignedCell p row column j a) l)
+Inv-loop entries row column count j p l₀ k₀ l k = (k ≤ count) × ((lib.ListN.length l ≡ capacity) × Filled k (SignedCell p row column j entries) l)
 
 abbrev μ-loop : tie.MeasureT-loop
-μ-loop a row column count j p l₀ k₀ l k = count - k
+μ-loop entries row column count j p l₀ k₀ l k = count - k
 
 no-coefficients-requires : tie.Need-no-coefficients-requires Inv-loop μ-loop
 no-coefficients-requires c κs = search needs
@@ -23,7 +23,7 @@ loop-holds : tie.Need-loop-holds Inv-loop μ-loop
 loop-holds c =
     let a = c .before .args in
     let e = c .no-coefficients .ensures in
-    let cell = SignedCell (a .p) (a .row) (a .column) (a .j) (a .a .now) in
+    let cell = SignedCell (a .p) (a .row) (a .column) (a .j) (a .entries .now) in
     (omega arith, (ap lib.ListN.length e ∙ length-replicate {A = ℕ} capacity 0, subst (Filled 0 cell) (sym e) (filled-none cell capacity)))
 
 entry-place-requires : tie.Need-entry-place-requires Inv-loop μ-loop
@@ -67,12 +67,12 @@ loop-again c =
     let a = c .before .before .before .before .before .before .args in
     let at-loop = c .before .before .before .before .loop in
     let x = c .with-sign .result in
-    let place = subst (λ n. Signed (a .p) (a .j) (getD (a .a .now) n 0) x) (c .before .before .entry-place .ensures) (c .with-sign .ensures) in (
+    let place = subst (λ n. Signed (a .p) (a .j) (getD (a .entries .now) n 0) x) (c .before .before .entry-place .ensures) (c .with-sign .ensures) in (
       omega arith,
       (
         length-set (at-loop .l) (at-loop .k + 2) x ∙ at-loop .inv .1 .0,
-        filled-more (SignedCell (a .p) (a .row) (a .column) (a .j) (a .a .now)) x (omega arith)
-            (signed-cell (a .p) (a .row) (a .column) (a .j) (a .a .now) (omega arith) place) (at-loop .inv .1 .1),
+        filled-more (SignedCell (a .p) (a .row) (a .column) (a .j) (a .entries .now)) x (omega arith)
+            (signed-cell (a .p) (a .row) (a .column) (a .j) (a .entries .now) (omega arith) place) (at-loop .inv .1 .1),
       ),
     )
 
@@ -81,8 +81,8 @@ returns c =
     let b = c .before .before .before in
     let a = b .args in
     let at-loop = c .before .loop in
-    signed-entry (a .p) (a .row) (a .column) (a .count) (a .j) (a .a .now) (at-loop .l) (omega (arith, b .pre .1 0))
-    (subst (λ n. Filled n (SignedCell (a .p) (a .row) (a .column) (a .j) (a .a .now)) (at-loop .l)) (omega arith) (at-loop .inv .1 .1))
+    signed-entry (a .p) (a .row) (a .column) (a .count) (a .j) (a .entries .now) (at-loop .l) (omega (arith, b .pre .1 0))
+    (subst (λ n. Filled n (SignedCell (a .p) (a .row) (a .column) (a .j) (a .entries .now)) (at-loop .l)) (omega arith) (at-loop .inv .1 .1))
 
 pub signed-entry-spec : {M : Type 1} → statement M
 signed-entry-spec =

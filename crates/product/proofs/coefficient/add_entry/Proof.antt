@@ -4,9 +4,9 @@ use native.Mathlib.Omega.{arith}
 use Prim.Native.Nat.{ℕ, _+_, _-_, _≤_}
 use lib.ListN.{getD}
 use Rattle.rules.specs.Sizes.{most-rows, most-order, most-length}
-use Rattle.layout.specs.Flat.{entry-place, column-place, square-place}
+use Rattle.layout.specs.Flat.{entry-place, column-place, square-place, length-at}
 use Rattle.product.specs.Total.{grown-at-most}
-use Rattle.product.specs.Product.{dot, first-power, powers, entry-coefficients, column-coefficients, pair-dot, powers-length, powers-end}
+use Rattle.product.specs.Product.{dot, first-power, powers, pair-dot, powers-length, powers-end}
 use Rattle.product.proofs.coefficient.add_entry.Statement.{statement}
 use Rattle.product.proofs.coefficient.add_entry.Tie as tie
 
@@ -44,7 +44,7 @@ start c = c .before .before .before .before .before .before
 
 -- The length of P's entry.
 abbrev length-of : tie.Start → ℕ
-length-of s = getD (s .args .lengths .now) (square-place (s .args .i) (s .args .l)) 0
+length-of s = length-at (s .args .lengths .now) (s .args .i) (s .args .l)
 
 -- How many products are added, and from which places on.
 counted : (c : tie.After-column-place) → c .before .before .powers .result ≡ powers (length-of (start c)) (start c .args .k)
@@ -72,7 +72,7 @@ ending c =
     )
 
 add-products-requires : tie.Need-add-products-requires
-unfolding entry-coefficients column-coefficients entry-place column-place most-rows most-order most-length first-power
+unfolding entry-place column-place most-rows most-order most-length first-power
 add-products-requires c κs =
     let s = start c in (
       (s .pre .0 .0, s .pre .0 .1 .0),
@@ -89,9 +89,9 @@ returns : tie.Need-returns
 returns c =
     let s = start (c .before) in
     grown-at-most (c .add-products .ensures) (omega (arith, ending (c .before)))
-    (pair-dot (s .args .a .now) (s .args .lengths .now) (s .args .f .now) (s .pre .0 .1 .1) (s .args .i) (s .args .j) (s .args .k) (s .args .l) (omega arith) (omega arith) (omega arith)
-    ∙ sym (ap (λ n. dot (s .args .a .now) (s .args .f .now) (c .before .before .entry-place .result) (c .before .column-place .result) n) (counted (c .before))
-    ∙ ap₂ (λ x y. dot (s .args .a .now) (s .args .f .now) x y (powers (length-of s) (s .args .k))) (from-entry (c .before)) (from-column (c .before))))
+    (pair-dot (s .args .entries .now) (s .args .lengths .now) (s .args .f .now) (s .pre .0 .1 .1) (s .args .i) (s .args .j) (s .args .k) (s .args .l) (omega arith) (omega arith) (omega arith)
+    ∙ sym (ap (λ n. dot (s .args .entries .now) (s .args .f .now) (c .before .before .entry-place .result) (c .before .column-place .result) n) (counted (c .before))
+    ∙ ap₂ (λ x y. dot (s .args .entries .now) (s .args .f .now) x y (powers (length-of s) (s .args .k))) (from-entry (c .before)) (from-column (c .before))))
 
 pub add-entry-spec : {M : Type 1} → statement M
 add-entry-spec =

@@ -6,45 +6,45 @@ use Rattle.rules.specs.Conditions.{sum-below}
 use Rattle.rules.specs.Sizes.{most-rows, most-order, most-length}
 use Rattle.layout.specs.Words.{product-small}
 use Rattle.product.specs.Total.{Grown, grown-none, grown-more}
-use Rattle.product.specs.Product.{dot, dot-more, entry-coefficients, column-coefficients}
+use Rattle.product.specs.Product.{dot, dot-more}
 use Rattle.product.proofs.coefficient.add_products.Statement.{statement}
 use Rattle.product.proofs.coefficient.add_products.Tie as tie
 
 abbrev Inv-loop : tie.InvT-loop
-Inv-loop a f x y count high₀ low₀ t₀ high low t = (t ≤ count) × Grown t high₀ low₀ (dot a f x y t) high low
+Inv-loop entries f x y count high₀ low₀ t₀ high low t = (t ≤ count) × Grown t high₀ low₀ (dot entries f x y t) high low
 
 abbrev μ-loop : tie.MeasureT-loop
-μ-loop a f x y count high₀ low₀ t₀ high low t = count - t
+μ-loop entries f x y count high₀ low₀ t₀ high low t = count - t
 
 loop-holds : tie.Need-loop-holds Inv-loop μ-loop
 unfolding dot sum-below
 loop-holds c = (search needs, grown-none _ _)
 
 add-wide : tie.Need-add-wide Inv-loop μ-loop
-unfolding entry-coefficients column-coefficients most-rows most-order most-length
+unfolding most-rows most-order most-length
 add-wide c = search needs
 
 mul-wide : tie.Need-mul-wide Inv-loop μ-loop
-unfolding entry-coefficients column-coefficients most-rows most-order most-length
+unfolding most-rows most-order most-length
 mul-wide c = search needs
 
 element-copy-out-wide : tie.Need-element-copy-out-wide Inv-loop μ-loop
-unfolding entry-coefficients column-coefficients most-rows most-order most-length
+unfolding most-rows most-order most-length
 element-copy-out-wide c = search needs
 
 wide-requires : tie.Need-wide-requires Inv-loop μ-loop
 wide-requires c κs = search needs
 
 sub-wide : tie.Need-sub-wide Inv-loop μ-loop
-unfolding entry-coefficients column-coefficients most-rows most-order most-length
+unfolding most-rows most-order most-length
 sub-wide c = search needs
 
 mul-wide-2 : tie.Need-mul-wide-2 Inv-loop μ-loop
-unfolding entry-coefficients column-coefficients most-rows most-order most-length
+unfolding most-rows most-order most-length
 mul-wide-2 c = search needs
 
 element-copy-out-wide-2 : tie.Need-element-copy-out-wide-2 Inv-loop μ-loop
-unfolding entry-coefficients column-coefficients most-rows most-order most-length
+unfolding most-rows most-order most-length
 element-copy-out-wide-2 c = search needs
 
 wide-requires-2 : tie.Need-wide-requires-2 Inv-loop μ-loop
@@ -81,7 +81,7 @@ add-low c =
     )
 
 add-t : tie.Need-add-t Inv-loop μ-loop
-unfolding entry-coefficients column-coefficients most-rows most-order most-length
+unfolding most-rows most-order most-length
 add-t c = search needs
 
 loop-less : tie.Need-loop-less Inv-loop μ-loop
@@ -93,8 +93,8 @@ loop-again c =
     let at = c .before .before .before .before .before in (
       search needs,
       grown-more (c .before .before .wide .result * c .wide2 .result) (at .loop .inv .1) (small c)
-          (dot-more (s .args .a .now) (s .args .f .now) (s .args .x) (s .args .y) (at .loop .t)
-          ∙ ap (λ n. dot (s .args .a .now) (s .args .f .now) (s .args .x) (s .args .y) (at .loop .t) + n)
+          (dot-more (s .args .entries .now) (s .args .f .now) (s .args .x) (s .args .y) (at .loop .t)
+          ∙ ap (λ n. dot (s .args .entries .now) (s .args .f .now) (s .args .x) (s .args .y) (at .loop .t) + n)
           (sym (ap₂ _*_ (c .before .before .wide .ensures) (c .wide2 .ensures)))),
     )
 
@@ -103,7 +103,7 @@ returns c =
     let s = c .before .before in
     let ended : c .before .loop .t ≡ s .args .count = omega arith in
     subst
-    (λ n. Grown n (s .args .total .high) (s .args .total .low) (dot (s .args .a .now) (s .args .f .now) (s .args .x) (s .args .y) n) (c .before .loop .high) (c .before .loop .low))
+    (λ n. Grown n (s .args .total .high) (s .args .total .low) (dot (s .args .entries .now) (s .args .f .now) (s .args .x) (s .args .y) n) (c .before .loop .high) (c .before .loop .low))
     ended (c .before .loop .inv .1)
 
 pub add-products-spec : {M : Type 1} → statement M

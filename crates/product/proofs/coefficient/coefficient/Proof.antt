@@ -12,7 +12,7 @@ entry-total-requires : tie.Need-entry-total-requires
 entry-total-requires c κs =
     let h = c .pre .0 in (
       (
-        below-small (c .args .p) (c .args .a .now) (h .modulus-most) (h .entry-below),
+        below-small (c .args .p) (c .args .entries .now) (h .modulus-most) (h .entry-below),
         (below-small (c .args .p) (c .args .f .now) (h .modulus-most) (h .column-below), h .padded),
       ),
       c .pre .1 .0,
@@ -29,8 +29,8 @@ returns c =
     let s = c .before .before in
     c .residue .ensures
     ∙ ap (λ n. n % s .args .p) (c .before .entry-total .ensures .total)
-    ∙ sym (red-value (s .args .p) (s .pre .0 .modulus-positive) (product-number (s .args .a .now) (s .args .f .now) (s .args .m) (s .args .i) (s .args .j) (s .args .k)))
-    ∙ ap (λ x. x .0) (product-residue (s .args .p) (s .args .a .now) (s .args .f .now) (s .args .m) (s .args .i) (s .args .j) (s .args .k))
+    ∙ sym (red-value (s .args .p) (s .pre .0 .modulus-positive) (product-number (s .args .entries .now) (s .args .f .now) (s .args .m) (s .args .i) (s .args .j) (s .args .k)))
+    ∙ ap (λ x. x .0) (product-residue (s .args .p) (s .args .entries .now) (s .args .f .now) (s .args .m) (s .args .i) (s .args .j) (s .args .k))
 
 pub coefficient-spec : {M : Type 1} → statement M
 coefficient-spec = tie.close (tie.spec entry-total-requires residue-requires returns)

@@ -12,11 +12,11 @@ use Rattle.product.proofs.coefficient.entry_total.Statement.{statement}
 use Rattle.product.proofs.coefficient.entry_total.Tie as tie
 
 abbrev Inv-loop : tie.InvT-loop
-Inv-loop a lengths f m i j k total₀ l₀ total l =
-    (l ≤ m) × Summed (l * most-length) (sum-below l (pair-number a f i j k)) (total .high) (total .low)
+Inv-loop entries lengths f m i j k total₀ l₀ total l =
+    (l ≤ m) × Summed (l * most-length) (sum-below l (pair-number entries f i j k)) (total .high) (total .low)
 
 abbrev μ-loop : tie.MeasureT-loop
-μ-loop a lengths f m i j k total₀ l₀ total l = m - l
+μ-loop entries lengths f m i j k total₀ l₀ total l = m - l
 
 loop-holds : tie.Need-loop-holds Inv-loop μ-loop
 unfolding sum-below
@@ -42,7 +42,7 @@ unfolding most-length
 loop-again c =
     let s = c .before .before .before in
     let l = c .before .before .loop .l in
-    let f = pair-number (s .args .a .now) (s .args .f .now) (s .args .i) (s .args .j) (s .args .k) in
+    let f = pair-number (s .args .entries .now) (s .args .f .now) (s .args .i) (s .args .j) (s .args .k) in
     (search needs, summed-more (c .before .before .loop .inv .1) (c .add-entry .ensures) (omega arith) (sum-below-last l f))
 
 returns : tie.Need-returns Inv-loop μ-loop
@@ -53,7 +53,7 @@ returns c =
     record {
       total =
           sum .1 .total
-          ∙ ap (λ n. sum-below n (pair-number (s .args .a .now) (s .args .f .now) (s .args .i) (s .args .j) (s .args .k))) (le-antisymm (sum .0) (c .loop-test .left));
+          ∙ ap (λ n. sum-below n (pair-number (s .args .entries .now) (s .args .f .now) (s .args .i) (s .args .j) (s .args .k))) (le-antisymm (sum .0) (c .loop-test .left));
       within = within-more (sum .1 .within) (mul-le-mul-right most-length (le-trans (sum .0) (s .pre .1 .0)));
     }
 

@@ -10,10 +10,10 @@ use Rattle.product.proofs.fault.fault_column.Statement.{statement}
 use Rattle.product.proofs.fault.fault_column.Tie as tie
 
 abbrev Inv-loop : tie.InvT-loop
-Inv-loop a lengths f orders c p m n at-order i j₀ j = (j ≤ n) × Fails j (flat-fault at-order p a f m orders c i)
+Inv-loop entries lengths f orders c p m n at-order i j₀ j = (j ≤ n) × Fails j (flat-fault at-order p entries f m orders c i)
 
 abbrev μ-loop : tie.MeasureT-loop
-μ-loop a lengths f orders c p m n at-order i j₀ j = n - j
+μ-loop entries lengths f orders c p m n at-order i j₀ j = n - j
 
 loop-holds : tie.Need-loop-holds Inv-loop μ-loop
 loop-holds c = (search needs, below-none _)

@@ -11,16 +11,16 @@ use Rattle.product.proofs.fault.first_fault.Statement.{statement}
 use Rattle.product.proofs.fault.first_fault.Tie as tie
 
 abbrev Inv-loop : tie.InvT-loop
-Inv-loop a lengths f orders c p m n at-order i₀ i = (i ≤ m) × ((r : ℕ) → r < i → Fails n (flat-fault at-order p a f m orders c r))
+Inv-loop entries lengths f orders c p m n at-order i₀ i = (i ≤ m) × ((r : ℕ) → r < i → Fails n (flat-fault at-order p entries f m orders c r))
 
 abbrev μ-loop : tie.MeasureT-loop
-μ-loop a lengths f orders c p m n at-order i₀ i = m - i
+μ-loop entries lengths f orders c p m n at-order i₀ i = m - i
 
 loop-holds : tie.Need-loop-holds Inv-loop μ-loop
 loop-holds c = (search needs, below-none _)
 
 abbrev faults : tie.Start Inv-loop μ-loop → ℕ → ℕ → Bool
-faults s = flat-fault (s .args .at-order) (s .args .p) (s .args .a .now) (s .args .f .now) (s .args .m) (s .args .orders) (s .args .c .now)
+faults s = flat-fault (s .args .at-order) (s .args .p) (s .args .entries .now) (s .args .f .now) (s .args .m) (s .args .orders) (s .args .c .now)
 
 fault-column-requires : tie.Need-fault-column-requires Inv-loop μ-loop
 fault-column-requires c κs =

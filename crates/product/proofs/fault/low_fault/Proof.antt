@@ -12,10 +12,10 @@ use Rattle.product.proofs.fault.low_fault.Statement.{statement}
 use Rattle.product.proofs.fault.low_fault.Tie as tie
 
 abbrev Inv-loop : tie.InvT-loop
-Inv-loop a lengths f p m i j order fold k₀ k = (k ≤ order) × Fails k (low-test p a f m i j)
+Inv-loop entries lengths f p m i j order fold k₀ k = (k ≤ order) × Fails k (low-test p entries f m i j)
 
 abbrev μ-loop : tie.MeasureT-loop
-μ-loop a lengths f p m i j order fold k₀ k = order - k
+μ-loop entries lengths f p m i j order fold k₀ k = order - k
 
 mul-order : tie.Need-mul-order Inv-loop μ-loop
 unfolding most-rows
@@ -25,8 +25,8 @@ array-read-order : tie.Need-array-read-order Inv-loop μ-loop
 unfolding most-rows
 array-read-order c = search needs
 
-fold-of-requires : tie.Need-fold-of-requires Inv-loop μ-loop
-fold-of-requires c κs = c .pre .0 .modulus-positive
+cut-mod-requires : tie.Need-cut-mod-requires Inv-loop μ-loop
+cut-mod-requires c κs = c .pre .0 .modulus-positive
 
 loop-holds : tie.Need-loop-holds Inv-loop μ-loop
 loop-holds c = (search needs, below-none _)
@@ -36,7 +36,7 @@ coefficient-requires c κs =
     let s = c .before .before .before in
     let rest = s .pre .1 .1 in (
       s .pre .0,
-      ((rest .0, (rest .1 .0, (rest .1 .1, le-trans (le-of-lt (c .loop-test .taken)) (s .pre .1 .0 (s .args .j))))), c .before .before .fold-of .ensures),
+      ((rest .0, (rest .1 .0, (rest .1 .1, le-trans (le-of-lt (c .loop-test .taken)) (s .pre .1 .0 (s .args .j))))), c .before .before .cut-mod .ensures),
     )
 
 returns : tie.Need-returns Inv-loop μ-loop
@@ -44,9 +44,9 @@ unfolding flat-low-fault
 returns c =
     let s = c .before .before .before .before .before in
     let k = c .before .before .before .loop .k in
-    sym (some-below-hit (getD (s .args .t4) (s .args .j) 0) (low-test (s .args .p) (s .args .a .now) (s .args .f .now) (s .args .m) (s .args .i) (s .args .j)) k
+    sym (some-below-hit (getD (s .args .t4) (s .args .j) 0) (low-test (s .args .p) (s .args .entries .now) (s .args .f .now) (s .args .m) (s .args .i) (s .args .j)) k
     (c .before .before .loop-test .taken)
-    (low-test-other (s .args .p) (s .args .a .now) (s .args .f .now) (s .args .m) (s .args .i) (s .args .j) k (c .before .coefficient .result) (c .before .coefficient .ensures) (c .if1 .taken)))
+    (low-test-other (s .args .p) (s .args .entries .now) (s .args .f .now) (s .args .m) (s .args .i) (s .args .j) k (c .before .coefficient .result) (c .before .coefficient .ensures) (c .if1 .taken)))
 
 add-k : tie.Need-add-k Inv-loop μ-loop
 unfolding most-order
@@ -62,7 +62,7 @@ loop-again c =
     let s = c .before .before .before .before .before in (
       search needs,
       below-more _ _ (c .before .before .before .loop .inv .1)
-          (low-test-zero (s .args .p) (s .args .a .now) (s .args .f .now) (s .args .m) (s .args .i) (s .args .j) (c .before .before .before .loop .k)
+          (low-test-zero (s .args .p) (s .args .entries .now) (s .args .f .now) (s .args .m) (s .args .i) (s .args .j) (c .before .before .before .loop .k)
           (c .before .coefficient .result) (c .before .coefficient .ensures) (c .if1 .left)),
     )
 
@@ -70,7 +70,7 @@ returns-2 : tie.Need-returns-2 Inv-loop μ-loop
 unfolding flat-low-fault
 returns-2 c =
     let s = c .before .before .before in
-    sym (some-below-fails (getD (s .args .t4) (s .args .j) 0) (low-test (s .args .p) (s .args .a .now) (s .args .f .now) (s .args .m) (s .args .i) (s .args .j))
+    sym (some-below-fails (getD (s .args .t4) (s .args .j) 0) (low-test (s .args .p) (s .args .entries .now) (s .args .f .now) (s .args .m) (s .args .i) (s .args .j))
     (λ k b. c .before .loop .inv .1 k (lt-of-lt-of-le b (c .loop-test .left))))
 
 pub low-fault-spec : {M : Type 1} → statement M
@@ -81,7 +81,7 @@ low-fault-spec =
     μ-loop
     mul-order
     array-read-order
-    fold-of-requires
+    cut-mod-requires
     loop-holds
     coefficient-requires
     returns

@@ -3,27 +3,26 @@ use Rattle.rules.specs.Sizes.{most-rows}
 use Rattle.product.proofs.fault.order_coefficient.Statement.{statement}
 use Rattle.product.proofs.fault.order_coefficient.Tie as tie
 
-mul-product-coefficient : tie.Need-mul-product-coefficient
-unfolding most-rows
-mul-product-coefficient c = search needs
+cut-mod-requires : tie.Need-cut-mod-requires
+cut-mod-requires c κs = c .pre .0 .modulus-positive
 
-array-read-product-coefficient : tie.Need-array-read-product-coefficient
+mul-coefficient : tie.Need-mul-coefficient
 unfolding most-rows
-array-read-product-coefficient c = search needs
+mul-coefficient c = search needs
 
-product-coefficient-requires : tie.Need-product-coefficient-requires
-product-coefficient-requires c κs =
-    let rest = c .pre .1 .1 in
-    (c .pre .0, (rest .0, (rest .1 .0, (rest .1 .1, c .pre .1 .0 _))))
+array-read-coefficient : tie.Need-array-read-coefficient
+unfolding most-rows
+array-read-coefficient c = search needs
+
+coefficient-requires : tie.Need-coefficient-requires
+coefficient-requires c κs =
+    let s = c .before in
+    let rest = s .pre .1 .1 in
+    (s .pre .0, ((rest .0, (rest .1 .0, (rest .1 .1, s .pre .1 .0 _))), c .cut-mod .ensures))
 
 returns : tie.Need-returns
 returns c = search needs
 
 pub order-coefficient-spec : {M : Type 1} → statement M
 order-coefficient-spec =
-    tie.close
-    (tie.spec
-    mul-product-coefficient
-    array-read-product-coefficient
-    product-coefficient-requires
-    returns)
+    tie.close (tie.spec cut-mod-requires mul-coefficient array-read-coefficient coefficient-requires returns)
