@@ -13,10 +13,10 @@ use lib.ListN.{length, getD, set, replicate, length-set, List·getD-eq-default, 
 use lib.Seq.{getD-set-same, getD-set-other}
 use Rattle.rules.specs.Sizes.{most-rows, most-order, most-length}
 use Rattle.rules.specs.Matrices.{at}
-use Rattle.layout.specs.Flat.{column-place, entry-place, square-place}
+use Rattle.layout.specs.Flat.{square, entry-coefficients, column-coefficients, column-place, entry-place, square-place}
 use Rattle.reader.specs.Storing.{pour}
 use Rattle.reader.specs.Poured.{All, Blocks, poured-length, poured-below, poured-above, poured-at, pour-both, pour-same, Every, every-set, every-pour}
-use Rattle.reader.specs.Flat.{filled, put-from, run-into, put-row, block-into, row-fits, list-into, shifts-into, put-column, columns-into, coefficients, row-into, entries-into, evidence-into, cells, entry-cells}
+use Rattle.reader.specs.Flat.{filled, put-from, run-into, put-row, block-into, row-fits, list-into, shifts-into, put-column, columns-into, row-into, entries-into, evidence-into}
 
 -- A property that everything has.
 abbrev Any : {A : Type 0} → A → Type 0
@@ -154,11 +154,10 @@ columns-tables st F =
 
 -- The coefficients of F in their array.
 pub columns-at : (F : List (List (List ℕ))) → length F ≤ most-rows → All (Table most-rows most-order) F → (i j k : ℕ) → i < most-rows → k < most-order
-    → getD (columns-into (filled coefficients 0) F) (column-place i j k) 0 ≡ getD (at F j i) k 0
-unfolding cells coefficients
+    → getD (columns-into (filled column-coefficients 0) F) (column-place i j k) 0 ≡ getD (at F j i) k 0
 columns-at F len good i j k hi hk =
-    ap (λ (x : ℕ). getD (columns-into (filled coefficients 0) F) x 0) (column-table i j k)
-    ∙ ap (λ (l : List ℕ). getD l (j * (most-rows * most-order) + (i * most-order + k)) 0) (columns-tables (filled coefficients 0) F)
+    ap (λ (x : ℕ). getD (columns-into (filled column-coefficients 0) F) x 0) (column-table i j k)
+    ∙ ap (λ (l : List ℕ). getD l (j * (most-rows * most-order) + (i * most-order + k)) 0) (columns-tables (filled column-coefficients 0) F)
     ∙ ap (λ (n : ℕ). getD (pour (put-table most-rows most-order) 0 (filled n 0) F) (j * (most-rows * most-order) + (i * most-order + k)) 0)
     (mul-assoc most-rows most-rows most-order)
     ∙ tables-at most-rows most-order most-rows F len good j i k hi hk
@@ -186,11 +185,10 @@ entries-parts st P =
     ∙ pour-both put-lengths (put-table most-rows most-length) 0 st P
 
 pub entries-at : (P : List (List (List ℕ))) → length P ≤ most-rows → All (Table most-rows most-length) P → (i j k : ℕ) → j < most-rows → k < most-length
-    → getD (entries-into (filled cells 0, filled entry-cells 0) P .1) (entry-place i j k) 0 ≡ getD (at P i j) k 0
-unfolding cells entry-cells
+    → getD (entries-into (filled square 0, filled entry-coefficients 0) P .1) (entry-place i j k) 0 ≡ getD (at P i j) k 0
 entries-at P len good i j k hj hk =
-    ap (λ (x : ℕ). getD (entries-into (filled cells 0, filled entry-cells 0) P .1) x 0) (entry-table i j k)
-    ∙ ap (λ (l : List ℕ × List ℕ). getD (l .1) (i * (most-rows * most-length) + (j * most-length + k)) 0) (entries-parts (filled cells 0, filled entry-cells 0) P)
+    ap (λ (x : ℕ). getD (entries-into (filled square 0, filled entry-coefficients 0) P .1) x 0) (entry-table i j k)
+    ∙ ap (λ (l : List ℕ × List ℕ). getD (l .1) (i * (most-rows * most-length) + (j * most-length + k)) 0) (entries-parts (filled square 0, filled entry-coefficients 0) P)
     ∙ ap (λ (n : ℕ). getD (pour (put-table most-rows most-length) 0 (filled n 0) P) (i * (most-rows * most-length) + (j * most-length + k)) 0)
     (mul-assoc most-rows most-rows most-length)
     ∙ tables-at most-rows most-length most-rows P len good i j k hj hk
@@ -210,24 +208,24 @@ length-blocks =
     }
 
 pub lengths-at : (P : List (List (List ℕ))) → length P ≤ most-rows → All (λ row. length row ≤ most-rows) P → (i j : ℕ) → j < most-rows
-    → getD (entries-into (filled cells 0, filled entry-cells 0) P .0) (square-place i j) 0 ≡ length (at P i j)
-unfolding cells square-place
+    → getD (entries-into (filled square 0, filled entry-coefficients 0) P .0) (square-place i j) 0 ≡ length (at P i j)
+unfolding square-place
 lengths-at P len good i j hj =
     let p : i * most-rows + j ≡ 0 + (0 + i) * most-rows + j = omega (arith, ap (λ (n : ℕ). n * most-rows) (zero-add i)) in
-    ap (λ (x : ℕ). getD (entries-into (filled cells 0, filled entry-cells 0) P .0) x 0) p
-    ∙ ap (λ (l : List ℕ × List ℕ). getD (l .0) (0 + (0 + i) * most-rows + j) 0) (entries-parts (filled cells 0, filled entry-cells 0) P)
-    ∙ poured-at length-blocks 0 (filled cells 0) P i j good hj
-    (omega (arith, filled-length {E = ℕ} cells 0, ap (λ (n : ℕ). n * most-rows) (zero-add (length P)), mul-le-mul-right most-rows len)) (λ x hx. filled-at cells 0 x)
+    ap (λ (x : ℕ). getD (entries-into (filled square 0, filled entry-coefficients 0) P .0) x 0) p
+    ∙ ap (λ (l : List ℕ × List ℕ). getD (l .0) (0 + (0 + i) * most-rows + j) 0) (entries-parts (filled square 0, filled entry-coefficients 0) P)
+    ∙ poured-at length-blocks 0 (filled square 0) P i j good hj
+    (omega (arith, filled-length {E = ℕ} square 0, ap (λ (n : ℕ). n * most-rows) (zero-add (length P)), mul-le-mul-right most-rows len)) (λ x hx. filled-at square 0 x)
 
 -- The numbers of C in their array.
 pub evidence-at : (C : List (List ℕ)) → length C ≤ most-rows → All (λ r. length r ≤ most-rows) C → (i j : ℕ) → j < most-rows
-    → getD (evidence-into (filled cells 0) C) (square-place i j) 0 ≡ getD (getD C i []) j 0
-unfolding cells square-place
+    → getD (evidence-into (filled square 0) C) (square-place i j) 0 ≡ getD (getD C i []) j 0
+unfolding square-place
 evidence-at C len good i j hj =
     let p : i * most-rows + j ≡ 0 + (0 + i) * most-rows + j = omega (arith, ap (λ (n : ℕ). n * most-rows) (zero-add i)) in
-    ap (λ (x : ℕ). getD (evidence-into (filled cells 0) C) x 0) p
-    ∙ poured-at (row-blocks 0 most-rows) 0 (filled cells 0) C i j good hj
-    (omega (arith, filled-length {E = ℕ} cells 0, ap (λ (n : ℕ). n * most-rows) (zero-add (length C)), mul-le-mul-right most-rows len)) (λ x hx. filled-at cells 0 x)
+    ap (λ (x : ℕ). getD (evidence-into (filled square 0) C) x 0) p
+    ∙ poured-at (row-blocks 0 most-rows) 0 (filled square 0) C i j good hj
+    (omega (arith, filled-length {E = ℕ} square 0, ap (λ (n : ℕ). n * most-rows) (zero-add (length C)), mul-le-mul-right most-rows len)) (λ x hx. filled-at square 0 x)
 
 -- What holds of 0 and of each number stored holds at every place of the arrays.
 module _ (Q : ℕ → Type 0) where
@@ -241,22 +239,22 @@ module _ (Q : ℕ → Type 0) where
     every-filled : (n : ℕ) → Every Q 0 (filled n 0)
     every-filled n x = subst Q (sym (filled-at n 0 x)) zero-in
 
-    pub every-column : (F : List (List (List ℕ))) → All (All (All Q)) F → Every Q 0 (columns-into (filled coefficients 0) F)
+    pub every-column : (F : List (List (List ℕ))) → All (All (All Q)) F → Every Q 0 (columns-into (filled column-coefficients 0) F)
     every-column F g =
-        every-pour Q 0 put-column (λ st j l h g. every-block (column-place 0 j 0) most-order st l h g) 0 (filled coefficients 0) F (every-filled coefficients) g
+        every-pour Q 0 put-column (λ st j l h g. every-block (column-place 0 j 0) most-order st l h g) 0 (filled column-coefficients 0) F (every-filled column-coefficients) g
 
-    pub every-entry : (P : List (List (List ℕ))) → All (All (All Q)) P → Every Q 0 (entries-into (filled cells 0, filled entry-cells 0) P .1)
+    pub every-entry : (P : List (List (List ℕ))) → All (All (All Q)) P → Every Q 0 (entries-into (filled square 0, filled entry-coefficients 0) P .1)
     every-entry P g =
-        subst (λ (l : List ℕ × List ℕ). Every Q 0 (l .1)) (sym (entries-parts (filled cells 0, filled entry-cells 0) P))
-        (every-pour Q 0 (put-table most-rows most-length) (λ st j l h g. every-block (j * (most-rows * most-length)) most-length st l h g) 0 (filled entry-cells 0) P
-        (every-filled entry-cells) g)
+        subst (λ (l : List ℕ × List ℕ). Every Q 0 (l .1)) (sym (entries-parts (filled square 0, filled entry-coefficients 0) P))
+        (every-pour Q 0 (put-table most-rows most-length) (λ st j l h g. every-block (j * (most-rows * most-length)) most-length st l h g) 0 (filled entry-coefficients 0) P
+        (every-filled entry-coefficients) g)
 
-    pub every-length : (P : List (List (List ℕ))) → All (All (λ l. Q (length l))) P → Every Q 0 (entries-into (filled cells 0, filled entry-cells 0) P .0)
+    pub every-length : (P : List (List (List ℕ))) → All (All (λ l. Q (length l))) P → Every Q 0 (entries-into (filled square 0, filled entry-coefficients 0) P .0)
     every-length P g =
-        subst (λ (l : List ℕ × List ℕ). Every Q 0 (l .0)) (sym (entries-parts (filled cells 0, filled entry-cells 0) P))
+        subst (λ (l : List ℕ × List ℕ). Every Q 0 (l .0)) (sym (entries-parts (filled square 0, filled entry-coefficients 0) P))
         (every-pour Q 0 put-lengths
-        (λ st i row h g. every-pour Q 0 (put-length i) (λ st j l h g. every-set Q 0 st (square-place i j) (length l) h g) 0 st row h g) 0 (filled cells 0) P
-        (every-filled cells) g)
+        (λ st i row h g. every-pour Q 0 (put-length i) (λ st j l h g. every-set Q 0 st (square-place i j) (length l) h g) 0 st row h g) 0 (filled square 0) P
+        (every-filled square) g)
 
-    pub every-constant : (C : List (List ℕ)) → All (All Q) C → Every Q 0 (evidence-into (filled cells 0) C)
-    every-constant C g = every-block 0 most-rows (filled cells 0) C (every-filled cells) g
+    pub every-constant : (C : List (List ℕ)) → All (All Q) C → Every Q 0 (evidence-into (filled square 0) C)
+    every-constant C g = every-block 0 most-rows (filled square 0) C (every-filled square) g

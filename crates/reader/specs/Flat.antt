@@ -1,6 +1,5 @@
 -- Where the values stand in the flat arrays: how each is put into what is there.
 --   filled                   an array of one value
---   cells, coefficients, entry-cells     the entries of a matrix, and the coefficients of F and of P: at most so many
 --   list-into, shifts-into   one value after the other, from the front
 --   put-from, run-into       numbers one after the other from a place on, …
 --   put-row, block-into      … and rows of them, each a stride after the one before
@@ -17,7 +16,7 @@ use native.Mathlib.Numerals.{add-one}
 use native.Mathlib.Omega.{arith}
 use lib.ListN.{set, length, replicate}
 use lib.IntN.{ℤ}
-use Rattle.rules.specs.Sizes.{most-rows, most-order, most-length}
+use Rattle.rules.specs.Sizes.{most-rows, most-order}
 use Rattle.layout.specs.Flat.{square-place, entry-place, column-place}
 use Rattle.reader.specs.Storing.{pour}
 
@@ -43,10 +42,6 @@ put-row base stride st i l = run-into (base + i * stride) st l
 abbrev pub block-into : ℕ → ℕ → List ℕ → List (List ℕ) → List ℕ
 block-into base stride st rows = pour (put-row base stride) 0 st rows
 
--- The entries of a matrix.
-unfoldable pub cells : ℕ
-cells = most-rows * most-rows
-
 -- The coefficients of F: each column's from the place of its first one on, and in it each row's.
 abbrev pub put-column : List ℕ → ℕ → List (List ℕ) → List ℕ
 put-column st j column = block-into (column-place 0 j 0) most-order st column
@@ -54,13 +49,7 @@ put-column st j column = block-into (column-place 0 j 0) most-order st column
 abbrev pub columns-into : List ℕ → List (List (List ℕ)) → List ℕ
 columns-into st F = pour put-column 0 st F
 
-unfoldable pub coefficients : ℕ
-coefficients = cells * most-order
-
 -- The entries of P: the length of each, and its coefficients from the place of its first one on.
-unfoldable pub entry-cells : ℕ
-entry-cells = cells * most-length
-
 abbrev pub put-entry : ℕ → List ℕ × List ℕ → ℕ → List ℕ → List ℕ × List ℕ
 put-entry i st j l = (set (st .0) (square-place i j) (length l), run-into (entry-place i j 0) (st .1) l)
 

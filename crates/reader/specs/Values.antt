@@ -20,11 +20,12 @@ use Rattle.rules.specs.Reader.{Place, Refusal, Result, refused, got, Reader, ne
 use Rattle.rules.specs.Files.{PR, OR, SH, FC, CE, entries-reader, problem-reader, answer-reader, basis-reader, read-problem}
 use Rattle.rules.specs.ReaderLaws.{next-cong}
 use Rattle.verdict.specs.declared.Refusal.{Refusal as Refused}
+use Rattle.layout.specs.Flat.{square, entry-coefficients, column-coefficients}
 use Rattle.reader.specs.declared.Problem.{Problem as ReadProblem}
 use Rattle.reader.specs.declared.Answer.{Answer as ReadAnswer}
 use Rattle.reader.specs.declared.Begun.{Begun}
 use Rattle.reader.specs.declared.Ended.{Ended}
-use Rattle.reader.specs.Flat.{filled, list-into, shifts-into, columns-into, entries-into, evidence-into, cells, coefficients, entry-cells}
+use Rattle.reader.specs.Flat.{filled, list-into, shifts-into, columns-into, entries-into, evidence-into}
 use Rattle.reader.specs.Records.{then-refused, then-given}
 use Rattle.reader.specs.Storing.{into, into-end, into-refused}
 use Rattle.reader.specs.Extent.{Narrow, answer-refused, basis-refused}
@@ -63,7 +64,7 @@ problem-value (refused x) =
       n = 0;
       orders = filled most-rows 0;
       shifts = filled most-rows (pos 0);
-      f = filled coefficients 0;
+      f = filled column-coefficients 0;
     }
 problem-value (got b q) =
     record {
@@ -74,7 +75,7 @@ problem-value (got b q) =
       n = b .n;
       orders = list-into (filled most-rows 0) (b .orders);
       shifts = shifts-into (filled most-rows (pos 0)) (b .shifts);
-      f = columns-into (filled coefficients 0) (b .F);
+      f = columns-into (filled column-coefficients 0) (b .F);
     }
 
 -- A problem without its arrays, refused or read, and with them.
@@ -102,14 +103,14 @@ answer-of p m n false t = into without-evidence (basis-reader (only p m n) t (fr
 
 -- The code's answer: what was read, or the refusal; every other number is 0.
 unfoldable pub answer-value : Result Answer → ReadAnswer
-answer-value (refused x) = record { ok = false; refusal = refusal-value x; lengths = filled cells 0; entries = filled entry-cells 0; c = filled cells 0 }
+answer-value (refused x) = record { ok = false; refusal = refusal-value x; lengths = filled square 0; entries = filled entry-coefficients 0; c = filled square 0 }
 answer-value (got a q) =
     record {
       ok = true;
       refusal = no-refusal;
-      lengths = entries-into (filled cells 0, filled entry-cells 0) (a .P) .0;
-      entries = entries-into (filled cells 0, filled entry-cells 0) (a .P) .1;
-      c = evidence-into (filled cells 0) (a .C);
+      lengths = entries-into (filled square 0, filled entry-coefficients 0) (a .P) .0;
+      entries = entries-into (filled square 0, filled entry-coefficients 0) (a .P) .1;
+      c = evidence-into (filled square 0) (a .C);
     }
 
 -- An answer without its arrays, and with them.

@@ -6,8 +6,9 @@ ghost use Rattle.rules.specs.Sizes.{most-rows};
 ghost use Rattle.rules.specs.Reader.{each};
 ghost use Rattle.rules.specs.Files.{PE, CE, entries-reader};
 ghost use Rattle.place.specs.Places.{place, going, taken};
+ghost use Rattle.layout.specs.Flat.{square, entry-coefficients};
 ghost use Rattle.reader.specs.Storing.{into};
-ghost use Rattle.reader.specs.Flat.{put-entry, row-into, entries-into, evidence-into, cells, entry-cells, answer-into};
+ghost use Rattle.reader.specs.Flat.{put-entry, row-into, entries-into, evidence-into, answer-into};
 ghost use Rattle.reader.specs.Records.{count-reader};
 ghost use Rattle.reader.specs.Values.{answer-parts};
 use crate::runs::block;
@@ -56,7 +57,7 @@ fn read_entry(
     lengths: &mut [usize],
     entries: &mut [u32],
 ) -> Going
-    requires { ⌜ (q .number < 65535) × (i < most-rows) × (j < most-rows) × (length (now lengths) ≡ cells) × (length (now entries) ≡ entry-cells) ⌝ }
+    requires { ⌜ (q .number < 65535) × (i < most-rows) × (j < most-rows) × (length (now lengths) ≡ square) × (length (now entries) ≡ entry-coefficients) ⌝ }
     ensures { λ r. ⌜ going r (now (lengths .exit), now (entries .exit)) ≡ into (put-entry i (now (lengths .entry), now (entries .entry)) j) (PE p i j (now (s .entry)) (place q)) ⌝ }
 {
     match read(s, opened(q), Test::Mark, PE, 0) {
@@ -84,7 +85,7 @@ fn read_row(
     lengths: &mut [usize],
     entries: &mut [u32],
 ) -> Going
-    requires { ⌜ (q .number + m < 65535) × (m ≤ most-rows) × (i < most-rows) × (length (now lengths) ≡ cells) × (length (now entries) ≡ entry-cells) ⌝ }
+    requires { ⌜ (q .number + m < 65535) × (m ≤ most-rows) × (i < most-rows) × (length (now lengths) ≡ square) × (length (now entries) ≡ entry-coefficients) ⌝ }
     ensures { λ r. ⌜ going r (now (lengths .exit), now (entries .exit)) ≡ into (row-into (now (lengths .entry), now (entries .entry)) i) (each m (λ j. PE p i j) (now (s .entry)) (place q)) ⌝ }
 {
     let mut here = q;
@@ -111,7 +112,7 @@ pub(crate) fn read_entries(
     lengths: &mut [usize],
     entries: &mut [u32],
 ) -> Going
-    requires { ⌜ (q .number + cells < 65535) × (m ≤ most-rows) × (length (now lengths) ≡ cells) × (length (now entries) ≡ entry-cells) ⌝ }
+    requires { ⌜ (q .number + square < 65535) × (m ≤ most-rows) × (length (now lengths) ≡ square) × (length (now entries) ≡ entry-coefficients) ⌝ }
     ensures { λ r. ⌜ going r (now (lengths .exit), now (entries .exit)) ≡ into (entries-into (now (lengths .entry), now (entries .entry))) (entries-reader p m (now (s .entry)) (place q)) ⌝ }
 {
     let mut here = q;
@@ -138,7 +139,7 @@ pub(crate) fn read_evidence(
     n: usize,
     out: &mut [u32],
 ) -> Going
-    requires { ⌜ (q .number < 65535) × (m ≤ most-rows) × (n ≤ most-rows) × (length (now out) ≡ cells) ⌝ }
+    requires { ⌜ (q .number < 65535) × (m ≤ most-rows) × (n ≤ most-rows) × (length (now out) ≡ square) ⌝ }
     ensures { λ r. ⌜ going r (now (out .exit)) ≡ into (evidence-into (now (out .entry))) (CE p m n (now (s .entry)) (place q)) ⌝ }
 {
     match read(s, opened(q), Test::Mark, CE, 0) {
@@ -161,7 +162,7 @@ pub(crate) fn read_all(
     out: &mut [u32],
 ) -> Going
     requires { ⌜ (q .number ≡ 0) × (m ≤ most-rows) × (n ≤ most-rows) ⌝ }
-    requires { ⌜ (length (now lengths) ≡ cells) × (length (now entries) ≡ entry-cells) × (length (now out) ≡ cells) ⌝ }
+    requires { ⌜ (length (now lengths) ≡ square) × (length (now entries) ≡ entry-coefficients) × (length (now out) ≡ square) ⌝ }
     ensures { λ r. ⌜ going r (now (lengths .exit), now (entries .exit), now (out .exit)) ≡ into (answer-into (now (lengths .entry), now (entries .entry), now (out .entry))) (answer-parts p m n evidence (now (s .entry)) (place q)) ⌝ }
 {
     match read_entries(s, q, p, m, lengths, entries) {

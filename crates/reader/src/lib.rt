@@ -5,7 +5,8 @@ ghost use lib.IntN.{pos};
 ghost use Rattle.rules.specs.Sizes.{most-rows};
 ghost use Rattle.rules.specs.Files.{read-problem};
 ghost use Rattle.place.specs.Places.{refusal, place};
-ghost use Rattle.reader.specs.Flat.{filled, cells, coefficients, entry-cells};
+ghost use Rattle.layout.specs.Flat.{square, entry-coefficients, column-coefficients};
+ghost use Rattle.reader.specs.Flat.{filled};
 ghost use Rattle.reader.specs.Extent.{Narrow};
 ghost use Rattle.reader.specs.Values.{refusal-value, no-refusal, problem-value, answer-value, answer-of, with-arrays, with-entries, begun-off, begun-on};
 
@@ -79,28 +80,28 @@ fn no_shifts() -> [i32; ROWS]
 
 // Coefficients of F, all 0.
 fn no_coefficients() -> [u32; COLUMN_COEFFICIENTS]
-    ensures { λ r. ⌜ r ≡ filled coefficients 0 ⌝ }
+    ensures { λ r. ⌜ r ≡ filled column-coefficients 0 ⌝ }
 {
     [0; COLUMN_COEFFICIENTS]
 }
 
 // Lengths of entries, all 0.
 fn no_lengths() -> [usize; SQUARE]
-    ensures { λ r. ⌜ r ≡ filled cells 0 ⌝ }
+    ensures { λ r. ⌜ r ≡ filled square 0 ⌝ }
 {
     [0; SQUARE]
 }
 
 // Coefficients of P, all 0.
 fn no_entries() -> [u32; ENTRY_COEFFICIENTS]
-    ensures { λ r. ⌜ r ≡ filled entry-cells 0 ⌝ }
+    ensures { λ r. ⌜ r ≡ filled entry-coefficients 0 ⌝ }
 {
     [0; ENTRY_COEFFICIENTS]
 }
 
 // Numbers of C, all 0.
 fn no_evidence() -> [u32; SQUARE]
-    ensures { λ r. ⌜ r ≡ filled cells 0 ⌝ }
+    ensures { λ r. ⌜ r ≡ filled square 0 ⌝ }
 {
     [0; SQUARE]
 }
@@ -174,7 +175,7 @@ fn problem_into(
     shifts: &mut [i32; ROWS],
     f: &mut [u32; COLUMN_COEFFICIENTS],
 ) -> Begun
-    requires { ⌜ (now orders ≡ filled most-rows 0) × ((now shifts ≡ filled most-rows (pos 0)) × (now f ≡ filled coefficients 0)) ⌝ }
+    requires { ⌜ (now orders ≡ filled most-rows 0) × ((now shifts ≡ filled most-rows (pos 0)) × (now f ≡ filled column-coefficients 0)) ⌝ }
     ensures { λ r. ⌜ with-arrays r (now (orders .exit)) (now (shifts .exit)) (now (f .exit)) ≡ problem-value (read-problem (now (s .entry))) ⌝ }
 {
     match read_head(s, front(0)) {
@@ -227,7 +228,7 @@ fn answer_into(
     c: &mut [u32; SQUARE],
 ) -> Ended
     requires { ⌜ (m ≤ most-rows) × (n ≤ most-rows) ⌝ }
-    requires { ⌜ (now lengths ≡ filled cells 0) × ((now entries ≡ filled entry-cells 0) × (now c ≡ filled cells 0)) ⌝ }
+    requires { ⌜ (now lengths ≡ filled square 0) × ((now entries ≡ filled entry-coefficients 0) × (now c ≡ filled square 0)) ⌝ }
     ensures { λ r. ⌜ with-entries r (now (lengths .exit)) (now (entries .exit)) (now (c .exit)) ≡ answer-value (answer-of p m n «with_evidence» (now (t .entry))) ⌝ }
 {
     match read_all(t, front(1), p, m, n, with_evidence, lengths, entries, c) {

@@ -6,9 +6,10 @@ ghost use Rattle.rules.specs.Sizes.{most-rows, most-order};
 ghost use Rattle.rules.specs.Reader.{each, field, unless};
 ghost use Rattle.rules.specs.Files.{PR, OR, SH, FC, one-to, shift-reader};
 ghost use Rattle.place.specs.Places.{place, going};
+ghost use Rattle.layout.specs.Flat.{column-coefficients};
 ghost use Rattle.reader.specs.Head.{headed};
 ghost use Rattle.reader.specs.Storing.{into};
-ghost use Rattle.reader.specs.Flat.{list-into, shifts-into, put-column, columns-into, coefficients, filled, body-into};
+ghost use Rattle.reader.specs.Flat.{list-into, shifts-into, put-column, columns-into, filled, body-into};
 ghost use Rattle.reader.specs.Records.{sizes-reader};
 ghost use Rattle.reader.specs.Values.{body-reader};
 use crate::runs::block;
@@ -156,7 +157,7 @@ pub(crate) fn read_shifts(s: &[u8], q: Place, m: usize, out: &mut [i32]) -> Goin
 // s: the file. q: the place of the `FC` record of column j: m rows of d coefficients modulo p. out: where they go.
 // How the reading goes on after the record.
 fn read_column(s: &[u8], q: Place, p: u32, m: usize, d: usize, j: usize, out: &mut [u32]) -> Going
-    requires { ⌜ (q .number < 65535) × (m ≤ most-rows) × (d ≤ most-order) × (j < most-rows) × (length (now out) ≡ coefficients) ⌝ }
+    requires { ⌜ (q .number < 65535) × (m ≤ most-rows) × (d ≤ most-order) × (j < most-rows) × (length (now out) ≡ column-coefficients) ⌝ }
     ensures { λ r. ⌜ going r (now (out .exit)) ≡ into (put-column (now (out .entry)) j) (FC p m d j (now (s .entry)) (place q)) ⌝ }
 {
     match read(s, opened(q), Test::Mark, FC, 0) {
@@ -181,7 +182,7 @@ pub(crate) fn read_columns(
 ) -> Going
     requires { ⌜ (q .number + n < 65535) × (m ≤ most-rows) × (n ≤ most-rows) × (n ≤ length (now orders)) ⌝ }
     requires { ⌜ ((j : ℕ) → getD (now orders) j 0 ≤ most-order) ⌝ }
-    requires { ⌜ length (now out) ≡ coefficients ⌝ }
+    requires { ⌜ length (now out) ≡ column-coefficients ⌝ }
     ensures { λ r. ⌜ going r (now (out .exit)) ≡ into (columns-into (now (out .entry))) (each n (λ j. FC p m (getD (now (orders .entry)) j 0) j) (now (s .entry)) (place q)) ⌝ }
 {
     let mut here = q;
@@ -212,7 +213,7 @@ pub(crate) fn read_body(
 ) -> Going
     requires { ⌜ (q .number < 2) × (m ≤ most-rows) × (n ≤ most-rows) ⌝ }
     requires { ⌜ now orders ≡ filled most-rows 0 ⌝ }
-    requires { ⌜ (length (now shifts) ≡ most-rows) × (length (now out) ≡ coefficients) ⌝ }
+    requires { ⌜ (length (now shifts) ≡ most-rows) × (length (now out) ≡ column-coefficients) ⌝ }
     ensures { λ r. ⌜ going r (now (orders .exit), now (shifts .exit), now (out .exit)) ≡ into (body-into (now (orders .entry), now (shifts .entry), now (out .entry))) (body-reader p m n (now (s .entry)) (place q)) ⌝ }
 {
     match read_orders(s, q, n, orders) {

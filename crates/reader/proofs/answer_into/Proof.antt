@@ -7,11 +7,12 @@ use lib.ListN.{length}
 use borrow.Author.Needs.{needs}
 use Rattle.rules.specs.Reader.{Place, refused, got, front}
 use Rattle.place.specs.Places.{place, refusal, going}
+use Rattle.layout.specs.Flat.{square, entry-coefficients}
 use Rattle.reader.specs.declared.Answer.{Answer}
 use Rattle.reader.specs.Values.{answer-parts, answer-value, answer-of, answer-from, answer-given, answer-of-refused}
 use Rattle.reader.specs.Records.{refused-into}
 use Rattle.reader.specs.Arrays.{filled-length}
-use Rattle.reader.specs.Flat.{answer-into, filled, cells, entry-cells}
+use Rattle.reader.specs.Flat.{answer-into, filled}
 use Rattle.reader.specs.Storing.{into, into-got, into-refused, going-on, going-off}
 use Rattle.reader.proofs.answer_into.Statement.{statement}
 use Rattle.reader.proofs.answer_into.Tie as tie
@@ -25,9 +26,9 @@ read-all-requires c κs =
     let pre = c₃ .before .before .pre in (
       (ap (λ (p : Place). p .number) (c₃ .front .ensures), pre .0 .0, pre .0 .1),
       (
-        ap length (pre .1 .0) ∙ filled-length {E = ℕ} cells 0,
-        ap length (pre .1 .1 .0) ∙ filled-length {E = ℕ} entry-cells 0,
-        ap length (pre .1 .1 .1) ∙ filled-length {E = ℕ} cells 0,
+        ap length (pre .1 .0) ∙ filled-length {E = ℕ} square 0,
+        ap length (pre .1 .1 .0) ∙ filled-length {E = ℕ} entry-coefficients 0,
+        ap length (pre .1 .1 .1) ∙ filled-length {E = ℕ} square 0,
       ),
     )
 
@@ -93,7 +94,7 @@ stored : (c : tie.After-enum-told)
     → let c₂ = c .before .before in
     _≡_ {A = List ℕ × List ℕ × List ℕ}
     (c₂ .read-all .last .1 .1 .1 .1 .1 .1 .0, c₂ .read-all .last .1 .1 .1 .1 .1 .1 .1 .0, c₂ .read-all .last .1 .1 .1 .1 .1 .1 .1 .1 .0)
-    (answer-into (filled cells 0, filled entry-cells 0, filled cells 0) (parts-read c .0))
+    (answer-into (filled square 0, filled entry-coefficients 0, filled square 0) (parts-read c .0))
 stored c =
     let pre = c .before .before .before .before .before .before .before .before .pre in
     sym (parts-read c .2) ∙ (λ i. answer-into (pre .1 .0 i, pre .1 .1 .0 i, pre .1 .1 .1 i) (parts-read c .0))

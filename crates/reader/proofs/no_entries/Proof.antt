@@ -1,12 +1,12 @@
 -- `reader::no_entries` meets its contract. Assumes nothing.
 use mathlib.Core.Path.{refl}
 use Rattle.rules.specs.Sizes.{most-rows, most-length}
-use Rattle.reader.specs.Flat.{filled, cells, entry-cells}
+use Rattle.reader.specs.Flat.{filled}
 use Rattle.reader.proofs.no_entries.Statement.{statement}
 use Rattle.reader.proofs.no_entries.Tie as tie
 
 returns : tie.Need-returns
-unfolding filled most-rows most-length cells entry-cells
+unfolding filled most-rows most-length
 returns c = refl
 
 pub no-entries-spec : {M : Type 1} → statement M

@@ -1,12 +1,12 @@
 -- `reader::no_evidence` meets its contract. Assumes nothing.
 use mathlib.Core.Path.{refl}
 use Rattle.rules.specs.Sizes.{most-rows}
-use Rattle.reader.specs.Flat.{filled, cells}
+use Rattle.reader.specs.Flat.{filled}
 use Rattle.reader.proofs.no_evidence.Statement.{statement}
 use Rattle.reader.proofs.no_evidence.Tie as tie
 
 returns : tie.Need-returns
-unfolding filled most-rows cells
+unfolding filled most-rows
 returns c = refl
 
 pub no-evidence-spec : {M : Type 1} → statement M

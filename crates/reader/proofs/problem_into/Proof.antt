@@ -12,13 +12,14 @@ use Rattle.rules.specs.Files.{PR, read-problem}
 use Rattle.rules.specs.ReaderLaws.{Forward}
 use Rattle.rules.specs.Soundness.{InSize, sound-PR}
 use Rattle.place.specs.Places.{place, refusal}
+use Rattle.layout.specs.Flat.{column-coefficients}
 use Rattle.reader.specs.declared.Problem.{Problem}
 use Rattle.reader.specs.Head.{headed}
 use Rattle.reader.specs.Values.{body-reader, problem-value, problem-of, head-refused, head-given, with-arrays}
 use Rattle.reader.specs.Records.{refused-into}
 use Rattle.reader.specs.Arrays.{filled-length}
 use Rattle.reader.specs.Extent.{problem-refused}
-use Rattle.reader.specs.Flat.{body-into, filled, coefficients}
+use Rattle.reader.specs.Flat.{body-into, filled}
 use Rattle.reader.specs.Storing.{into, into-got, into-refused, going-on, going-off}
 use Rattle.reader.proofs.problem_into.Statement.{statement}
 use Rattle.reader.proofs.problem_into.Tie as tie
@@ -67,7 +68,7 @@ read-body-requires c κs =
         pre .0,
         (
           ap length (pre .1 .0) ∙ filled-length most-rows (pos 0),
-          ap length (pre .1 .1) ∙ filled-length {E = ℕ} coefficients 0,
+          ap length (pre .1 .1) ∙ filled-length {E = ℕ} column-coefficients 0,
         ),
       ),
     )
@@ -124,7 +125,7 @@ stored : (c : tie.After-enum-told)
     → let c₂ = c .before .before in
     _≡_ {A = List ℕ × List ℤ × List ℕ}
     (c₂ .read-body .last .1 .1 .1 .1 .1 .0, c₂ .read-body .last .1 .1 .1 .1 .1 .1 .0, c₂ .read-body .last .1 .1 .1 .1 .1 .1 .1 .0)
-    (body-into (filled most-rows 0, filled most-rows (pos 0), filled coefficients 0) (body-read c .0))
+    (body-into (filled most-rows 0, filled most-rows (pos 0), filled column-coefficients 0) (body-read c .0))
 stored c =
     let pre = c .before .before .before .before .before .before .before .before .before .before .before .before .pre in
     sym (body-read c .2) ∙ (λ i. body-into (pre .0 i, pre .1 .0 i, pre .1 .1 i) (body-read c .0))

@@ -12,14 +12,14 @@ use Rattle.rules.specs.Files.{CE, entries-reader}
 use Rattle.rules.specs.Soundness.{sound-entries}
 use Rattle.reader.specs.Values.{answer-parts, answer-parts-refused}
 use Rattle.reader.specs.Records.{then-refused, then-given, refused-into}
-use Rattle.reader.specs.Flat.{entries-into, evidence-into, answer-into, cells}
+use Rattle.reader.specs.Flat.{entries-into, evidence-into, answer-into}
 use Rattle.reader.specs.Storing.{into, pour, into-got, into-refused, file-end, going-on, going-off}
 use Rattle.place.specs.Places.{place}
 use Rattle.reader.proofs.answer_file.read_all.Statement.{statement}
 use Rattle.reader.proofs.answer_file.read_all.Tie as tie
 
 read-entries-requires : tie.Need-read-entries-requires
-unfolding cells most-rows
+unfolding most-rows
 read-entries-requires c κs = omega (arith, c .before .before .before .before .before .before .pre)
 
 enum-known-x : tie.Need-enum-known-x
@@ -59,7 +59,7 @@ returns c =
     (ap (into (answer-into (args .lengths .now, args .entries .now, args .out .now))) (ap (λ (b : Bool). answer-parts (args .p) (args .m) (args .n) b (args .s .now) (place (args .q))) (not-true (args .evidence) (c .before .if1 .taken)) ∙ then-given _ (entries-read (c .before .before) .1)))
 
 read-evidence-requires : tie.Need-read-evidence-requires
-unfolding cells most-rows
+unfolding most-rows
 read-evidence-requires c κs =
     let c₁₆ = c .before .before .before .before .before .before .before .before .before .before .before .before .before .before .before .before in
     let pre = c₁₆ .pre in

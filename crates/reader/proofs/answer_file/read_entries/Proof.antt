@@ -12,7 +12,7 @@ use Rattle.rules.specs.Files.{PE, entries-reader}
 use Rattle.rules.specs.ReaderLaws.{sound-each}
 use Rattle.rules.specs.Soundness.{sound-PE}
 use Rattle.reader.specs.Records.{stored-forward}
-use Rattle.reader.specs.Flat.{row-into, cells}
+use Rattle.reader.specs.Flat.{row-into}
 use Rattle.reader.specs.Storing.{Kept, began, stopped, went-on, ended, going-off, going-on}
 use Rattle.place.specs.Places.{place}
 use Rattle.reader.proofs.answer_file.read_entries.Statement.{statement}
@@ -34,7 +34,7 @@ unfolding most-rows
 loop-holds c = (omega arith, refl, refl, omega arith, began _ _ _ _ _ _)
 
 read-row-requires : tie.Need-read-row-requires Inv-loop μ-loop
-unfolding cells most-rows
+unfolding most-rows
 read-row-requires c κs =
     let c₇ = c .before .before .before .before .before .before .before in
     let pre = c₇ .pre in

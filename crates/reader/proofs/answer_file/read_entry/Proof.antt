@@ -11,7 +11,7 @@ use Rattle.rules.specs.Files.{PE-mark, PE, coefficient-test}
 use Rattle.rules.specs.ReaderLaws.{opening, sound-each}
 use Rattle.rules.specs.Soundness.{sound-coefficient}
 use Rattle.layout.specs.Flat.{square-place, entry-place}
-use Rattle.reader.specs.Flat.{put-entry, run-into, cells, entry-cells}
+use Rattle.reader.specs.Flat.{put-entry, run-into}
 use Rattle.reader.specs.Storing.{into}
 use Rattle.reader.specs.Records.{marked, closed-into, list-numbered, refuses, gives, record-refused, record-given, refused-into, field-number, sound-counts, PE-after-mark, beside}
 use Rattle.place.specs.Places.{place, taken, going}
@@ -51,13 +51,13 @@ square-place-requires : tie.Need-square-place-requires
 square-place-requires c κs = search needs
 
 mul-lengths : tie.Need-mul-lengths
-unfolding square-place most-rows cells
+unfolding square-place most-rows
 mul-lengths c =
     let c₁₃ = c .before .before .before .before .before .before .before .before .before .before .before .before .before in
     omega (arith, c .square-place .ensures, c₁₃ .pre)
 
 slice-write-lengths : tie.Need-slice-write-lengths
-unfolding square-place most-rows cells
+unfolding square-place most-rows
 slice-write-lengths c =
     let c₁₃ = c .before .before .before .before .before .before .before .before .before .before .before .before .before in
     omega (arith, c .square-place .ensures, c₁₃ .pre)
@@ -67,7 +67,7 @@ unfolding most-length
 entry-place-requires c κs = search needs
 
 run-requires : tie.Need-run-requires
-unfolding entry-place most-rows most-length cells entry-cells
+unfolding entry-place most-rows most-length
 run-requires c κs =
     let c₆ = c .before .before .before .before .before .before in
     let c₁₅ = c₆ .before .before .before .before .before .before .before .before .before in

@@ -8,7 +8,7 @@ use Rattle.rules.specs.Reader.{mark}
 use Rattle.rules.specs.Files.{CE-mark, CE}
 use Rattle.rules.specs.ReaderLaws.{opening}
 use Rattle.rules.specs.Soundness.{sound-row}
-use Rattle.reader.specs.Flat.{evidence-into, cells}
+use Rattle.reader.specs.Flat.{evidence-into}
 use Rattle.reader.specs.Storing.{into}
 use Rattle.reader.specs.Records.{marked, closed-into, list-numbered, refuses, gives, record-refused, record-given, refused-into, field-number}
 use Rattle.place.specs.Places.{place, taken}
@@ -33,7 +33,7 @@ enum-known-q1 : tie.Need-enum-known-q1
 enum-known-q1 c = search needs
 
 block-requires : tie.Need-block-requires
-unfolding cells most-rows
+unfolding most-rows
 block-requires c κs = omega (arith, c .before .before .before .before .before .before .before .before .pre)
 
 closed-requires : tie.Need-closed-requires

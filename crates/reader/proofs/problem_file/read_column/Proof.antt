@@ -10,7 +10,7 @@ use Rattle.rules.specs.Files.{FC-mark, FC, due, residue}
 use Rattle.rules.specs.ReaderLaws.{opening}
 use Rattle.rules.specs.Soundness.{sound-row}
 use Rattle.layout.specs.Flat.{column-place}
-use Rattle.reader.specs.Flat.{put-column, block-into, cells, coefficients}
+use Rattle.reader.specs.Flat.{put-column, block-into}
 use Rattle.reader.specs.Storing.{into}
 use Rattle.reader.specs.Records.{marked, closed-into, list-numbered, refuses, gives, record-refused, record-given, refused-into, field-number}
 use Rattle.place.specs.Places.{place, taken, going}
@@ -75,7 +75,7 @@ block-read c =
     (c .before .column-place .ensures)
 
 block-requires : tie.Need-block-requires
-unfolding column-place cells coefficients most-rows most-order
+unfolding column-place most-rows most-order
 block-requires c κs =
     let c₁₃ = c .before .before .before .before .before .before .before .before .before .before .before .before .before in
     omega (arith, c .column-place .ensures, c₁₃ .pre)
