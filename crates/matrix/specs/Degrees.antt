@@ -24,7 +24,8 @@ use Rattle.rules.specs.Sizes.{most-rows, most-length, most-shift}
 use Rattle.layout.specs.Flat.{square-place, length-at, shift-at, cell, cells, cell-below}
 use Rattle.layout.specs.Holds.{Each, Short}
 use Rattle.matrix.specs.Fill.{array-of, array-of-at, array-of-below}
-use Rattle.matrix.specs.Signed.{natAbs-minus, natAbs-largest, natAbs-sum}
+use Rattle.rules.specs.Magnitudes.{natAbs-largest, natAbs-sum}
+use Rattle.matrix.specs.Signed.{natAbs-minus}
 
 -- The lengths of P's entries and the shifts are within document 01's sizes.
 pub record Sized (lengths : List ℕ) (shifts : List ℤ) : Type 0 where

@@ -16,6 +16,7 @@ pub mod Run
 pub mod Cases
 pub mod BoolLaws
 pub mod SearchLaws
+pub mod Magnitudes
 pub mod ReducedLaws
 pub mod DeterminantLaws
 pub mod ProductLaws

@@ -6,13 +6,12 @@ use mathlib.Core.Path.{_≡_, refl, sym, ap, _∙_}
 use mathlib.Core.Bool.{Bool, true, false}
 use mathlib.Core.List.{List, _++_}
 use mathlib.Core.Option.{Option, none, some}
-use Prim.Native.Nat.{ℕ, zero, suc, pred, _+_, _-_, _*_, _%_, _^_, _≤_, _<_, zero-le}
+use Prim.Native.Nat.{ℕ, pred, _+_, _-_, _*_, _%_, _^_, _≤_, _<_, zero-le}
 use native.Mathlib.Nat.{le-refl, mul-le-mul, add-mul-mod-self-left, mod-eq-of-lt, eq-of-mul-eq-mul-left}
 use native.Mathlib.Omega.{arith}
 use lib.Dec.{leb}
 use lib.IntN.{ℤ, pos, negsuc, natAbs, negℤ, _+ℤ_}
 use lib.ListN.{length, drop}
-use lib.Signed.{leZ}
 use Rattle.algebra.specs.Integer.{Integers, natAbs-add, natAbs-neg}
 use Rattle.algebra.specs.Sum.{sum}
 use Rattle.rules.specs.Sizes.{most-rows, most-order, most-shift, most-length}
@@ -21,13 +20,14 @@ use Rattle.rules.specs.Claim.{Problem, Claim}
 use Rattle.rules.specs.Files.{read-claim, read-basis}
 use Rattle.rules.specs.Valid.{ValidProblem, ValidBasis, Valid}
 use Rattle.rules.specs.Matrices.{shift, at}
-use Rattle.rules.specs.Conditions.{degree-of, largest, row-degree-of, row-degree, degree-sum-of, degree-sum, reduced, monomial-determinant, rank-below, low-fault, order-fault}
+use Rattle.rules.specs.Conditions.{degree-of, row-degree-of, row-degree, degree-sum-of, degree-sum, reduced, monomial-determinant, rank-below, low-fault, order-fault}
 use Rattle.rules.specs.Conditions.{first-place}
 use Rattle.rules.specs.Verdict.{Numbers, passed, unread, not-reduced, not-monomial, below-order, at-order, low-rank, no-room, written, four, numbers}
 use Rattle.rules.specs.Verdict.{natural, by-rank, by-product, judge-claim, verdict, packed}
 use Rattle.rules.specs.Evidence.{Made, make-evidence, evidence-size, evidence-of}
 use Rattle.rules.specs.Writer.{write-CE}
 use Rattle.rules.specs.BoolLaws.{cond-cases}
+use Rattle.rules.specs.Magnitudes.{natAbs-largest, natAbs-sum}
 use Rattle.rules.specs.SearchLaws.{FirstPlace, first-place-some}
 use Rattle.rules.specs.Soundness.{longest-PE, longest-basis, longest-answer}
 use Rattle.rules.specs.Ranges.{claim-valid, read-basis-valid}
@@ -65,17 +65,6 @@ packed-injective v w hv hw e =
 
 -- SIZES OF INTEGERS
 
-natAbs-sum : (n B : ℕ) (f : ℕ → ℤ) → ((i : ℕ) → natAbs (f i) ≤ B) → natAbs (sum Integers n f) ≤ n * B
-unfolding sum
-natAbs-sum zero B f h = zero-le
-natAbs-sum (suc n) B f h = omega (arith, natAbs-add (f 0) (sum Integers n (λ i. f (suc i))), h 0, natAbs-sum n B (λ i. f (suc i)) (λ i. h (suc i)))
-
-natAbs-largest : (n B : ℕ) (f : ℕ → ℤ) → ((i : ℕ) → natAbs (f i) ≤ B) → natAbs (largest n f) ≤ B
-unfolding largest
-natAbs-largest zero B f h = h 0
-natAbs-largest (suc n) B f h =
-    cond-cases (leZ (f 0) (largest n (λ j. f (suc j)))) _ _ (λ z. natAbs z ≤ B) (λ t. natAbs-largest n B (λ j. f (suc j)) (λ j. h (suc j))) (λ t. h 0)
-
 natural-natAbs : (z : ℤ) → natural z ≤ natAbs z
 natural-natAbs (pos d) = le-refl d
 natural-natAbs (negsuc d) = zero-le
@@ -84,8 +73,8 @@ natural-natAbs (negsuc d) = zero-le
 module _ (b : Problem) (P : List (List (List ℕ))) (valid : ValidProblem b) (basis : ValidBasis b P) where
   row-degree-most : (i : ℕ) → natAbs (row-degree b P i) ≤ most-order + most-shift
   unfolding row-degree-of degree-of most-length most-order
-  row-degree-most i = natAbs-largest (pred (b .m)) (most-order + most-shift) (λ j. pos (degree-of (length (at P i j))) +ℤ shift b j)
-      (λ j.
+  row-degree-most i = natAbs-largest (most-order + most-shift) (pred (b .m)) (λ j. pos (degree-of (length (at P i j))) +ℤ shift b j)
+      (λ j hj.
       let added : natAbs (pos (degree-of (length (at P i j))) +ℤ shift b j) ≤ pred (length (at P i j)) + natAbs (shift b j) =
       natAbs-add (pos (degree-of (length (at P i j)))) (shift b j) in
       omega (arith, valid .shift-most j, basis .P-entry-length i j))
@@ -97,8 +86,8 @@ module _ (b : Problem) (P : List (List (List ℕ))) (valid : ValidProblem b) (ba
     natural-natAbs (degree-sum b P),
     natAbs-add (sum Integers (b .m) (row-degree b P)) (negℤ (sum Integers (b .m) (shift b))),
     natAbs-neg (sum Integers (b .m) (shift b)),
-    natAbs-sum (b .m) (most-order + most-shift) (row-degree b P) row-degree-most,
-    natAbs-sum (b .m) most-shift (shift b) (valid .shift-most),
+    natAbs-sum (most-order + most-shift) (b .m) (row-degree b P) (λ i hi. row-degree-most i),
+    natAbs-sum most-shift (b .m) (shift b) (λ i hi. valid .shift-most i),
     mul-le-mul (valid .rows-most) (le-refl (most-order + most-shift)),
     mul-le-mul (valid .rows-most) (le-refl most-shift),
   )
