@@ -53,10 +53,14 @@ mul-if1 : tie.Need-mul-if1 Inv-loop μ-loop
 mul-if1 c = omega (arith, product-small (c .wide .ensures .1) (c .wide .ensures .1))
 
 returns : tie.Need-returns Inv-loop μ-loop
-returns c = found-none (enough (c .before .before .before .before .before .before .before .pre) (c .before .before .before .before .loop .inv .1 .0) (c .before .before .before .before .loop .inv .1 .1) (rw (sym (c .before .wide .ensures .0)) (omega arith)))
+returns c =
+    let start = c .before .before .before .before in
+    found-none (enough (c .before .before .before .before .before .before .before .pre) (start .loop .inv .1 .0) (start .loop .inv .1 .1) (rw (sym (c .before .wide .ensures .0)) (omega arith)))
 
 divisor-in-block-requires : tie.Need-divisor-in-block-requires Inv-loop μ-loop
-divisor-in-block-requires c κs = (c .before .before .before .before .before .before .before .pre, room (c .before .before .before .before .loop .inv .1 .0) (c .before .before .before .before .before .before .before .pre .blocks) (c .before .before .before .loop-test .taken))
+divisor-in-block-requires c κs =
+    let start = c .before .before .before .before .before .before .before in
+    (start .pre, room (c .before .before .before .before .loop .inv .1 .0) (start .pre .blocks) (c .before .before .before .loop-test .taken))
 
 returns-2 : tie.Need-returns-2 Inv-loop μ-loop
 returns-2 c =
@@ -64,7 +68,11 @@ returns-2 c =
     found-one i (found i (c .before .before .before .before .before .before .loop .inv .1 .0) (room (c .before .before .before .before .before .before .loop .inv .1 .0) (c .before .before .before .before .before .before .before .before .before .pre .blocks) (c .before .before .before .before .before .loop-test .taken)) (rw (sym (c .before .before .before .wide .ensures .0)) (omega arith)) h)
 
 add-from : tie.Need-add-from Inv-loop μ-loop
-add-from c = omega (arith, room (c .before .before .before .before .before .before .loop .inv .1 .0) (c .before .before .before .before .before .before .before .before .before .pre .blocks) (c .before .before .before .before .before .loop-test .taken))
+add-from c =
+    omega (
+      arith,
+      room (c .before .before .before .before .before .before .loop .inv .1 .0) (c .before .before .before .before .before .before .before .before .before .pre .blocks) (c .before .before .before .before .before .loop-test .taken),
+    )
 
 loop-less : tie.Need-loop-less Inv-loop μ-loop
 loop-less c = search needs

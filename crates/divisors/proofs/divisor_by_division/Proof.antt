@@ -48,7 +48,8 @@ loop-less : tie.Need-loop-less Inv-loop μ-loop
 loop-less c = search needs
 
 loop-again : tie.Need-loop-again Inv-loop μ-loop
-loop-again c = (omega arith, (omega arith, clear-more refl (λ h. c .if1 .left (ap (λ x. c .before .before .before .before .before .before .args .p % x) (c .before .wide .ensures .0) ∙ mod-eq-zero-of-dvd _ h)) (c .before .before .before .before .loop .inv .1 .1)))
+loop-again c =
+    (omega arith, (omega arith, clear-more refl (λ h. c .if1 .left (ap (λ x. c .before .before .before .before .before .before .args .p % x) (c .before .wide .ensures .0) ∙ mod-eq-zero-of-dvd _ h)) (c .before .before .before .before .loop .inv .1 .1)))
 
 returns-2 : tie.Need-returns-2 Inv-loop μ-loop
 returns-2 c = found-none (λ i h. c .before .loop .inv .1 .1 .none i (h .start) (omega (arith, h .end)) (h .divides))

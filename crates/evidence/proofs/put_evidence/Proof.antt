@@ -22,7 +22,9 @@ put-text-requires : tie.Need-put-text-requires Inv-loop μ-loop
 put-text-requires c κs = omega (arith, c .before .before .before .pre .1 .1 .1)
 
 loop-holds : tie.Need-loop-holds Inv-loop μ-loop
-loop-holds c = let a = c .before .before .before .before .before .before .args in rows-start (a .p) (a .entries .now) (a .f .now) (a .orders) (a .m) (a .n) (c .before .before .put-text .result) (c .before .before .put-text .last .0)
+loop-holds c =
+    let a = c .before .before .before .before .before .before .args in
+    rows-start (a .p) (a .entries .now) (a .f .now) (a .orders) (a .m) (a .n) (c .before .before .put-text .result) (c .before .before .put-text .last .0)
 
 put-row-requires : tie.Need-put-row-requires Inv-loop μ-loop
 put-row-requires c κs =

@@ -45,7 +45,10 @@ same-length : tie.Need-same-length Inv-loop μ-loop
 same-length c = c .before .loop .inv .put .same-length
 
 returns : tie.Need-returns Inv-loop μ-loop
-returns c = let a = c .before .before .before .args in let l = c .before .loop in row-done (a .p) (a .entries .now) (a .f .now) (a .orders) (a .m) (a .n) (a .i) (a .at) (a .out .now) (l .out) (l .end) (l .j) (omega arith) (l .inv)
+returns c =
+    let a = c .before .before .before .args in
+    let l = c .before .loop in
+    row-done (a .p) (a .entries .now) (a .f .now) (a .orders) (a .m) (a .n) (a .i) (a .at) (a .out .now) (l .out) (l .end) (l .j) (omega arith) (l .inv)
 
 pub put-row-spec : {M : Type 1} → statement M
 put-row-spec =

@@ -21,7 +21,8 @@ array-share-prefix-text : tie.Need-array-share-prefix-text
 array-share-prefix-text c = appended-within _ (c .before .line .last .1 .0) 0 (c .before .line .result) _ zero-le (c .before .line .ensures)
 
 slice-aggregate-write-all : tie.Need-slice-aggregate-write-all
-slice-aggregate-write-all c = part-length (c .before .before .line .result) (c .before .before .line .last .1 .0) (appended-within _ (c .before .before .line .last .1 .0) 0 (c .before .before .line .result) _ zero-le (c .before .before .line .ensures))
+slice-aggregate-write-all c =
+    part-length (c .before .before .line .result) (c .before .before .line .last .1 .0) (appended-within _ (c .before .before .line .last .1 .0) 0 (c .before .before .line .result) _ zero-le (c .before .before .line .ensures))
 
 write-all-requires : tie.Need-write-all-requires
 write-all-requires c κs = search needs

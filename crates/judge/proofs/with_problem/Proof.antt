@@ -30,10 +30,18 @@ enum-known-n : tie.Need-enum-known-n
 enum-known-n c = search needs
 
 array-share-prefix-answer : tie.Need-array-share-prefix-answer
-array-share-prefix-answer c = omega (arith, within-bytes _ (c .before .n .given .0 .0) (c .before .before .before .before .load .result) (c .before .before .before .before .load .ensures) (c .before .n .given .1), c .before .before .before .before .load .kept .1 .0)
+array-share-prefix-answer c =
+    let start = c .before .before .before .before in
+    omega (
+      arith,
+      within-bytes _ (c .before .n .given .0 .0) (start .load .result) (start .load .ensures) (c .before .n .given .1),
+      start .load .kept .1 .0,
+    )
 
 slice-aggregate-judge : tie.Need-slice-aggregate-judge
-slice-aggregate-judge c = part-length (c .before .before .n .given .0 .0) (c .before .before .before .before .before .load .last .1 .0) (omega (arith, within-bytes _ (c .before .before .n .given .0 .0) (c .before .before .before .before .before .load .result) (c .before .before .before .before .before .load .ensures) (c .before .before .n .given .1), c .before .before .before .before .before .load .kept .1 .0))
+slice-aggregate-judge c =
+    let start = c .before .before .before .before .before in
+    part-length (c .before .before .n .given .0 .0) (start .load .last .1 .0) (omega (arith, within-bytes _ (c .before .before .n .given .0 .0) (start .load .result) (start .load .ensures) (c .before .before .n .given .1), start .load .kept .1 .0))
 
 judge-requires : tie.Need-judge-requires
 judge-requires c κs = search needs

@@ -64,13 +64,17 @@ put-number-returns :
     (put-number-below t, put-number.Post)
     (put-number-at t)
     put-number.Post
-put-number-returns t c = let a = c .before .before .args in subst (Appended (a .out .now) (set (a .out .now) (a .at) (48 + a .n)) (a .at) (a .at + 1)) (sym (digits-small (a .n) (c .if1 .taken))) (appended-byte (a .out .now) (a .at) (48 + a .n) (omega (arith, ap length (digits-small (a .n) (c .if1 .taken)), c .before .before .pre .1)))
+put-number-returns t c =
+    let a = c .before .before .args in
+    subst (Appended (a .out .now) (set (a .out .now) (a .at) (48 + a .n)) (a .at) (a .at + 1)) (sym (digits-small (a .n) (c .if1 .taken))) (appended-byte (a .out .now) (a .at) (48 + a .n) (omega (arith, ap length (digits-small (a .n) (c .if1 .taken)), c .before .before .pre .1)))
 
 put-number-put-number-requires : (t : ℕ) → put-number-lts.Need-put-number-requires (
   put-number-below t,
   put-number.Post,
 ) (put-number-at t) put-number.Post
-put-number-put-number-requires t c κs = let a = c .before .before .before .args in (omega (arith, c .before .before .before .pre .0), omega (arith, digits-more (a .n) (c .before .if1 .left), c .before .before .before .pre .1))
+put-number-put-number-requires t c κs =
+    let a = c .before .before .before .args in
+    (omega (arith, c .before .before .before .pre .0), omega (arith, digits-more (a .n) (c .before .if1 .left), c .before .before .before .pre .1))
 
 put-number-cast-out-2 : (t : ℕ) → put-number-lts.Need-cast-out-2 (
   put-number-below t,

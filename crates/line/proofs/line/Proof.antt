@@ -22,13 +22,20 @@ cast-put-number : tie.Need-cast-put-number
 cast-put-number c = search needs
 
 put-number-requires : tie.Need-put-number-requires
-put-number-requires c κs = let w = c .before .before .before .put-text .ensures in omega (arith, digits-word (c .before .before .before .before .before .before .before .before .args .v) (c .before .before .before .before .before .before .before .before .fits .v .fits), c .before .before .before .before .before .before .before .before .pre, w .ends, w .same-length)
+put-number-requires c κs =
+    let start = c .before .before .before .before .before .before .before .before in
+    let w = c .before .before .before .put-text .ensures in
+    omega (arith, digits-word (start .args .v) (start .fits .v .fits), start .pre, w .ends, w .same-length)
 
 slice-aggregate-put-text-2 : tie.Need-slice-aggregate-put-text-2
 slice-aggregate-put-text-2 c = search needs
 
 put-text-requires-2 : tie.Need-put-text-requires-2
-put-text-requires-2 c κs = let w = c .before .before .before .before .before .before .before .before .put-text .ensures in let n = c .before .before .before .before .put-number .ensures in omega (arith, digits-word (c .before .before .before .before .before .before .before .before .before .before .before .before .before .args .v) (c .before .before .before .before .before .before .before .before .before .before .before .before .before .fits .v .fits), c .before .before .before .before .before .before .before .before .before .before .before .before .before .pre, w .ends, w .same-length, n .ends, n .same-length)
+put-text-requires-2 c κs =
+    let start = c .before .before .before .before .before .before .before .before .before .before .before .before .before in
+    let w = c .before .before .before .before .before .before .before .before .put-text .ensures in
+    let n = c .before .before .before .before .put-number .ensures in
+    omega (arith, digits-word (start .args .v) (start .fits .v .fits), start .pre, w .ends, w .same-length, n .ends, n .same-length)
 
 same-length : tie.Need-same-length
 same-length c = search needs
@@ -58,7 +65,12 @@ slice-aggregate-put-text-4 : tie.Need-slice-aggregate-put-text-4
 slice-aggregate-put-text-4 c = search needs
 
 put-text-requires-4 : tie.Need-put-text-requires-4
-put-text-requires-4 c κs = let w = c .before .before .before .before .before .before .before .before .put-text3 .ensures in let n = c .before .before .before .before .put-numbers .ensures in let a = c .before .before .before .before .before .before .before .before .before .before .before .before .before .args in omega (arith, n .same-length, w .same-length, w .ends, n .ends, four-numbers-length (a .v) (c .before .before .before .before .before .before .before .before .before .before .before .before .before .fits .v .fits), c .before .before .before .before .before .before .before .before .before .before .before .before .before .pre)
+put-text-requires-4 c κs =
+    let start = c .before .before .before .before .before .before .before .before .before .before .before .before .before in
+    let w = c .before .before .before .before .before .before .before .before .put-text3 .ensures in
+    let n = c .before .before .before .before .put-numbers .ensures in
+    let a = start .args in
+    omega (arith, n .same-length, w .same-length, w .ends, n .ends, four-numbers-length (a .v) (start .fits .v .fits), start .pre)
 
 same-length-2 : tie.Need-same-length-2
 same-length-2 c = search needs

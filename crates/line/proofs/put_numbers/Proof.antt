@@ -20,19 +20,57 @@ cast-put-spaced : tie.Need-cast-put-spaced
 cast-put-spaced c = search needs
 
 put-spaced-requires : tie.Need-put-spaced-requires
-put-spaced-requires c κs = let a = c .before .before .before .before .before .before .args in let one = c .before .before .before .put-number .ensures in omega (arith, digits-byte (a .v), digits-byte (a .v / 256), c .before .before .before .before .before .before .pre, one .ends, one .same-length)
+put-spaced-requires c κs =
+    let start = c .before .before .before .before .before .before in
+    let a = start .args in
+    let one = c .before .before .before .put-number .ensures in
+    omega (arith, digits-byte (a .v), digits-byte (a .v / 256), start .pre, one .ends, one .same-length)
 
 cast-put-spaced-2 : tie.Need-cast-put-spaced-2
 cast-put-spaced-2 c = search needs
 
 put-spaced-requires-2 : tie.Need-put-spaced-requires-2
-put-spaced-requires-2 c κs = let a = c .before .before .before .before .before .before .before .before .before .before .args in let one = c .before .before .before .before .before .before .before .put-number .ensures in let two = c .before .before .before .put-spaced .ensures in omega (arith, digits-byte (a .v), digits-byte (a .v / 256), digits-short (a .v / 65_536), c .before .before .before .before .before .before .before .before .before .before .pre, one .ends, one .same-length, two .ends, two .same-length)
+put-spaced-requires-2 c κs =
+    let start = c .before .before .before .before .before .before .before .before .before .before in
+    let a = start .args in
+    let one = c .before .before .before .before .before .before .before .put-number .ensures in
+    let two = c .before .before .before .put-spaced .ensures in
+    omega (
+      arith,
+      digits-byte (a .v),
+      digits-byte (a .v / 256),
+      digits-short (a .v / 65_536),
+      start .pre,
+      one .ends,
+      one .same-length,
+      two .ends,
+      two .same-length,
+    )
 
 cast-put-spaced-3 : tie.Need-cast-put-spaced-3
 cast-put-spaced-3 c = search needs
 
 put-spaced-requires-3 : tie.Need-put-spaced-requires-3
-put-spaced-requires-3 c κs = let a = c .before .before .before .before .before .before .before .before .before .before .before .before .before .before .args in let one = c .before .before .before .before .before .before .before .before .before .before .before .put-number .ensures in let two = c .before .before .before .before .before .before .before .put-spaced .ensures in let three = c .before .before .before .put-spaced2 .ensures in omega (arith, digits-byte (a .v), digits-byte (a .v / 256), digits-short (a .v / 65_536), digits-word (a .v) (c .before .before .before .before .before .before .before .before .before .before .before .before .before .before .fits .v .fits), c .before .before .before .before .before .before .before .before .before .before .before .before .before .before .pre, one .ends, one .same-length, two .ends, two .same-length, three .ends, three .same-length)
+put-spaced-requires-3 c κs =
+    let start = c .before .before .before .before .before .before .before .before .before .before .before .before .before .before in
+    let a = start .args in
+    let one = c .before .before .before .before .before .before .before .before .before .before .before .put-number .ensures in
+    let two = c .before .before .before .before .before .before .before .put-spaced .ensures in
+    let three = c .before .before .before .put-spaced2 .ensures in
+    omega (
+      arith,
+      digits-byte (a .v),
+      digits-byte (a .v / 256),
+      digits-short (a .v / 65_536),
+      digits-word (a .v) (start .fits .v .fits),
+      start .pre,
+      one .ends,
+      one .same-length,
+      two .ends,
+      two .same-length,
+      three .ends,
+      three .same-length,
+    )
 
 same-length : tie.Need-same-length
 same-length c = search needs
