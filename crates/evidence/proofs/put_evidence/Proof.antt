@@ -1,8 +1,11 @@
 use borrow.Author.Needs.{needs}
-use mathlib.Core.Path.{_∙_}
-use Prim.Native.Nat.{_+_, _-_, _*_, _≤_}
+use mathlib.Core.Path.{_≡_, refl, subst, _∙_}
+use mathlib.Core.List.{List}
+use Prim.Native.Nat.{ℕ, _+_, _-_, _*_, _≤_}
 use native.Mathlib.Omega.{arith}
 use Rattle.rules.specs.Writer.{bytes}
+use Rattle.rules.specs.Files.{CE-mark}
+use Rattle.writer.specs.Appended.{Appended}
 use Rattle.evidence.specs.Record.{RowsPut, rows-fit, rows-start, rows-more, record-done}
 use Rattle.evidence.proofs.put_evidence.Statement.{statement}
 use Rattle.evidence.proofs.put_evidence.Tie as tie
@@ -49,13 +52,17 @@ loop-again c =
 same-length : tie.Need-same-length Inv-loop μ-loop
 same-length c = c .before .loop .inv .put .same-length ∙ c .before .before .before .before .put-text .ensures .same-length
 
+-- What is put first is the mark.
+marked : {before after text : List ℕ} {end : ℕ} → Appended before after 0 end text → text ≡ bytes 2 CE-mark → Appended before after 0 end (bytes 2 CE-mark)
+marked {before} {after} {end = end} put same = subst (Appended before after 0 end) same put
+
 returns : tie.Need-returns Inv-loop μ-loop
 unfolding bytes
 returns c =
     let a = c .before .before .before .before .before .before .before .before .args in
     let l = c .before .loop in
     let mark = c .before .before .before .before .put-text in
-    record-done (a .p) (a .entries .now) (a .f .now) (a .orders) (a .m) (a .n) (mark .result) (mark .last .0) (a .out .now) (l .out) (l .end) (l .i) (mark .ensures) (omega arith) (l .inv)
+    record-done (a .p) (a .entries .now) (a .f .now) (a .orders) (a .m) (a .n) (mark .result) (mark .last .0) (a .out .now) (l .out) (l .end) (l .i) (marked (mark .ensures) refl) (omega arith) (l .inv)
 
 pub put-evidence-spec : {M : Type 1} → statement M
 put-evidence-spec =
