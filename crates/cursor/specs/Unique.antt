@@ -1,10 +1,12 @@
--- Two results of a field that satisfy the contract are equal. That of `signed16` is an equation.
+-- Each public function's contract leaves one result: two results that satisfy it are equal.
 --   taken-one                one result of a field of the code for each of the rules
+--   read-unique, read-prime-unique, signed16-unique    the functions
 use mathlib.Core.Path.{_≡_, refl, sym, ap, ap₂, _∙_}
 use mathlib.Core.List.{List}
 use Prim.Native.Nat.{ℕ}
+use lib.IntN.{ℤ}
 use Rattle.rules.specs.Reader.{Place, Refusal, Result, refused, got, field, unless}
-use Rattle.rules.specs.Files.{allowed-prime}
+use Rattle.rules.specs.Files.{allowed-prime, two's-complement}
 use Rattle.rules.specs.ReaderLaws.{got-not-refused}
 use Rattle.place.specs.declared.Place.{Place as Spot}
 use Rattle.place.specs.declared.Field.{Field}
@@ -33,3 +35,6 @@ module _ (s : List ℕ) (q : Spot) (r r′ : Field) where
 
   pub read-prime-unique : taken r ≡ field 4 (unless 4 allowed-prime) s (place q) → taken r′ ≡ field 4 (unless 4 allowed-prime) s (place q) → r ≡ r′
   read-prime-unique h h′ = taken-one r r′ (h ∙ sym h′)
+
+pub signed16-unique : (v : ℕ) (r r′ : ℤ) → r ≡ two's-complement v → r′ ≡ two's-complement v → r ≡ r′
+signed16-unique v r r′ e e′ = e ∙ sym e′

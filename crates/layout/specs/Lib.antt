@@ -1,4 +1,5 @@
 pub mod Flat
 pub mod Holds
 pub mod Settles
+pub mod Unique
 pub mod Words

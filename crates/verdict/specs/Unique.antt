@@ -1,7 +1,8 @@
 -- Two results that satisfy a contract of this crate, or of one whose results are verdicts, are equal.
 use mathlib.Core.Path.{_≡_, refl, sym, ap, _∙_}
+use Prim.Native.Nat.{ℕ}
 use Rattle.rules.specs.Reader.{Refusal as RefusalOf}
-use Rattle.rules.specs.Verdict.{Verdict as VerdictOf, Numbers, passed, unread, not-reduced, not-monomial, below-order, at-order, low-rank, no-room, written, numbers}
+use Rattle.rules.specs.Verdict.{Verdict as VerdictOf, Numbers, passed, unread, not-reduced, not-monomial, below-order, at-order, low-rank, no-room, written, numbers, packed}
 use Rattle.verdict.specs.declared.Refusal.{Refusal}
 use Rattle.verdict.specs.declared.Four.{Four}
 use Rattle.verdict.specs.declared.Verdict.{Verdict}
@@ -38,9 +39,12 @@ verdict-for-meant (Written k) = refl
 pub meant-unique : (v w : Verdict) → meant v ≡ meant w → v ≡ w
 meant-unique v w e = sym (verdict-for-meant v) ∙ ap verdict-for e ∙ verdict-for-meant w
 
--- `numbers`. The contract of `pack` is an equation.
+-- `numbers`, and `pack`.
 abbrev four-for : Numbers → Four
 four-for n = record { code = n .code; file = n .file; number = n .number; at = n .at }
 
 pub numbers-unique : (v : Verdict) (r r′ : Four) → four-of r ≡ numbers (meant v) → four-of r′ ≡ numbers (meant v) → r ≡ r′
 numbers-unique v r r′ e e′ = ap four-for (e ∙ sym e′)
+
+pub pack-unique : (v : Verdict) (r r′ : ℕ) → r ≡ packed (numbers (meant v)) → r′ ≡ packed (numbers (meant v)) → r ≡ r′
+pack-unique v r r′ e e′ = e ∙ sym e′
