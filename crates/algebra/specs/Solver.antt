@@ -1,7 +1,7 @@
 -- A solver for the identities of commutative rings. An identity is written as two expressions over numbered variables. Their
 -- difference is multiplied out into monomials with signs, equal monomials of opposite signs cancel, and nothing must be left.
 --   Expr                     expressions: # k (the variable k), ⓪, ①, _⊞_, _⊠_, ⊟_
---   v0, …, v7                the first eight variables
+--   v0, …, v6                the first seven variables
 --   denote R ρ e             the value of e in R, where the variable k stands for the k-th element of the list ρ
 --   same l r                 whether l and r are equal by the laws of commutative rings
 --   ring R ρ l r refl        l and r have the same value, if the test passes
@@ -48,9 +48,6 @@ v5 = # 5
 
 abbrev pub v6 : Expr
 v6 = # 6
-
-abbrev pub v7 : Expr
-v7 = # 7
 
 -- A monomial is the sorted list of its variables. A sum is the sorted list of its terms, monomials with a sign (true
 -- where the monomial is added, false where it is subtracted).
@@ -231,24 +228,3 @@ module _ (R : CommRing) (ρ : List (R .C)) where
       value-difference =
           value-expand-insert l true (expand r insert false [] [])
           ∙ ap (λ x. denote l ⊕ x) (value-expand-insert r false [] ∙ add-zero (⊖ denote r))
-
--- Examples.
-module _ (R : CommRing) where
-  open CommRing R using (C, _⊕_, _⊗_, ⊖_)
-
-  infixl 60 _⊕_
-  infixl 70 _⊗_
-  infix 80 ⊖_
-  distributes : (a b c : C) → a ⊗ (b ⊕ c) ≡ a ⊗ b ⊕ a ⊗ c
-  distributes a b c = ring R (a ∷ b ∷ c ∷ []) (v0 ⊠ (v1 ⊞ v2)) (v0 ⊠ v1 ⊞ v0 ⊠ v2) refl
-
-  square-difference : (a b : C) → (a ⊕ ⊖ b) ⊗ (a ⊕ b) ≡ a ⊗ a ⊕ ⊖ (b ⊗ b)
-  square-difference a b = ring R (a ∷ b ∷ []) ((v0 ⊞ ⊟ v1) ⊠ (v0 ⊞ v1)) (v0 ⊠ v0 ⊞ ⊟ (v1 ⊠ v1)) refl
-
-  -- The determinant of a product of two-by-two matrices.
-  det-product : (a b c d e f g h : C) → (a ⊗ e ⊕ b ⊗ g) ⊗ (c ⊗ f ⊕ d ⊗ h) ⊕ ⊖ ((a ⊗ f ⊕ b ⊗ h) ⊗ (c ⊗ e ⊕ d ⊗ g)) ≡ (a ⊗ d ⊕ ⊖ (b ⊗ c)) ⊗ (e ⊗ h ⊕ ⊖ (f ⊗ g))
-  det-product a b c d e f g h =
-      ring R (a ∷ b ∷ c ∷ d ∷ e ∷ f ∷ g ∷ h ∷ [])
-      ((v0 ⊠ v4 ⊞ v1 ⊠ v6) ⊠ (v2 ⊠ v5 ⊞ v3 ⊠ v7) ⊞ ⊟ ((v0 ⊠ v5 ⊞ v1 ⊠ v7) ⊠ (v2 ⊠ v4 ⊞ v3 ⊠ v6)))
-      ((v0 ⊠ v3 ⊞ ⊟ (v1 ⊠ v2)) ⊠ (v4 ⊠ v7 ⊞ ⊟ (v5 ⊠ v6)))
-      refl
