@@ -21,7 +21,7 @@ use Rattle.verdict.specs.Meant.{meant}
 use Rattle.layout.specs.Flat.{length-at, shift-at, cells}
 use Rattle.layout.specs.Settles.{Settles}
 use Rattle.matrix.specs.Fill.{array-of}
-use Rattle.matrix.specs.Degrees.{leading-number}
+use Rattle.matrix.specs.Leading.{leading-number}
 use Rattle.product.specs.Faults.{flat-fault, place-of}
 use Rattle.matrix.specs.Rank.{rank-number}
 use Rattle.product.specs.declared.fault.FirstFault.{FirstFault}

@@ -11,7 +11,7 @@ use Rattle.rules.specs.Sizes.{most-rows}
 use Rattle.rules.specs.Claim.{Claim}
 use Rattle.rules.specs.Valid.{Valid}
 use Rattle.layout.specs.Holds.{Each, Ordered, EntryCells, EntryLengths, ColumnCells, Orders, Shifts, Constants}
-use Rattle.matrix.specs.Degrees.{Sized}
+use Rattle.degrees.specs.Degrees.{Sized}
 use Rattle.product.specs.Product.{Factors}
 
 pub record Arrays : Type 0 where

@@ -18,10 +18,11 @@ use Rattle.rules.specs.ReducedLaws.{reduced-iff}
 use Rattle.rules.specs.DeterminantLaws.{monomial-determinant-iff}
 use Rattle.rules.specs.ProductLaws.{rank-below-iff}
 use Rattle.layout.specs.Flat.{length-at, shift-at, cells}
-use Rattle.matrix.specs.Claims.{leading-rules, rank-rules, degree-sum-rules}
+use Rattle.degrees.specs.Claims.{degree-sum-rules}
+use Rattle.matrix.specs.Claims.{leading-rules, rank-rules}
 use Rattle.product.specs.Claims.{first-low-place, first-order-place}
 use Rattle.matrix.specs.Fill.{array-of}
-use Rattle.matrix.specs.Degrees.{leading-number}
+use Rattle.matrix.specs.Leading.{leading-number}
 use Rattle.product.specs.Faults.{flat-fault}
 use Rattle.matrix.specs.Rank.{rank-number}
 use Rattle.layout.specs.Settles.{Settles}
@@ -38,14 +39,14 @@ module _ (x : Arrays) (c : Claim) (held : Held x c) where
       (grid (c .problem .p) (array-of (c .problem .m) (c .problem .m) (leading-number (x .entries) (x .lengths) (x .shifts) (c .problem .m))))
       (leading-matrix (c .problem) (c .answer .P))
   same-leading =
-      leading-rules (c .problem) (c .answer .P) (x .entries) (x .lengths) (x .shifts) (held .P-held) (held .lengths-held) (held .shifts-held)
+      leading-rules (c .problem) (c .answer .P) (x .entries) (held .P-held) (x .lengths) (x .shifts) (held .lengths-held) (held .shifts-held)
       (held .valid .valid-problem .rows-most)
 
   same-rank : Same (K (c .problem .p)) (c .problem .m) (c .problem .m + c .problem .n)
       (grid (c .problem .p) (array-of (c .problem .m) (c .problem .m + c .problem .n) (rank-number (x .entries) (x .constants) (c .problem .m))))
       (rank-matrix (c .problem) (c .answer .P) (c .answer .C))
   same-rank =
-      rank-rules (c .problem) (c .answer .P) (x .entries) (x .lengths) (x .shifts) (held .P-held) (c .answer .C) (x .constants) (held .C-held)
+      rank-rules (c .problem) (c .answer .P) (x .entries) (held .P-held) (c .answer .C) (x .constants) (held .C-held)
       (held .valid .valid-problem .rows-most) (held .valid .valid-problem .columns-most)
 
   -- What the tests over the arrays say of the claim: conditions 1 and 2, …
@@ -96,4 +97,4 @@ module _ (x : Arrays) (c : Claim) (held : Held x c) where
 
   pub same-degree-sum : degree-sum-of (c .problem .m) (length-at (x .lengths)) (shift-at (x .shifts)) ≡ degree-sum (c .problem) (c .answer .P)
   same-degree-sum =
-      degree-sum-rules (c .problem) (c .answer .P) (x .entries) (x .lengths) (x .shifts) (held .lengths-held) (held .shifts-held)
+      degree-sum-rules (c .problem) (c .answer .P) (x .lengths) (x .shifts) (held .lengths-held) (held .shifts-held)

@@ -14,7 +14,8 @@ ghost use Rattle.layout.specs.Holds.{Each, Ordered};
 ghost use Rattle.layout.specs.Settles.{Settles};
 ghost use Rattle.elimination.specs.Grid.{grid};
 ghost use Rattle.matrix.specs.Fill.{array-of};
-ghost use Rattle.matrix.specs.Degrees.{Sized, leading-number};
+ghost use Rattle.degrees.specs.Degrees.{Sized};
+ghost use Rattle.matrix.specs.Leading.{leading-number};
 ghost use Rattle.matrix.specs.Rank.{rank-number};
 ghost use Rattle.product.specs.Product.{Factors};
 ghost use Rattle.product.specs.Faults.{flat-fault};
@@ -28,7 +29,7 @@ use layout::COLUMN_COEFFICIENTS;
 use layout::ENTRY_COEFFICIENTS;
 use layout::ROWS;
 use layout::SQUARE;
-use matrix::degree::leading_matrix;
+use matrix::leading::leading_matrix;
 use matrix::rank::rank_matrix;
 use product::fault::FirstFault;
 use product::fault::first_fault;
@@ -164,6 +165,6 @@ pub fn conditions<'a>(
         }
         code += 1;
     }
-    let sum = matrix::degree::degree_sum(lengths, shifts, m);
-    Verdict::Passed(matrix::degree::not_negative(sum))
+    let sum = degrees::degree_sum(lengths, shifts, m);
+    Verdict::Passed(degrees::not_negative(sum))
 }

@@ -1,6 +1,5 @@
-pub mod Signed
 pub mod Fill
-pub mod Degrees
+pub mod Leading
 pub mod Rank
 pub mod Claims
 pub mod Unique

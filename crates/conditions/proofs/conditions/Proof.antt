@@ -13,8 +13,8 @@ use Rattle.conditions.specs.Findings.{finding, Tried, none-tried, tried-
 use Rattle.conditions.proofs.conditions.Statement.{statement}
 use Rattle.conditions.proofs.conditions.Tie as tie
 use Rattle.conditions.proofs.applying.Reads as applying-reads
-use Rattle.matrix.proofs.degree.degree_sum.Reads as degree-sum-reads
-use Rattle.matrix.proofs.degree.not_negative.Reads as not-negative-reads
+use Rattle.degrees.proofs.degree_sum.Reads as degree-sum-reads
+use Rattle.degrees.proofs.not_negative.Reads as not-negative-reads
 
 abbrev Inv-loop : tie.InvT-loop
 Inv-loop orders shifts f lengths entries c p m n code₀ code = Tried p m n (arrays orders shifts f lengths entries c) code

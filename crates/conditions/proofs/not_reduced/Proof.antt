@@ -9,11 +9,11 @@ use Rattle.algebra.specs.Residue.{K}
 use Rattle.algebra.specs.Det.{det}
 use Rattle.layout.specs.Settles.{Settles}
 use Rattle.elimination.specs.Grid.{grid}
-use Rattle.matrix.specs.Degrees.{leading-array-below}
+use Rattle.matrix.specs.Leading.{leading-array-below}
 use Rattle.conditions.proofs.not_reduced.Statement.{statement}
 use Rattle.conditions.proofs.not_reduced.Tie as tie
 use Rattle.elimination.proofs.singular.Reads as singular-reads
-use Rattle.matrix.proofs.degree.leading_matrix.Reads as leading-matrix-reads
+use Rattle.matrix.proofs.leading.leading_matrix.Reads as leading-matrix-reads
 
 leading-matrix-requires : tie.Need-leading-matrix-requires
 leading-matrix-requires c κs = search needs

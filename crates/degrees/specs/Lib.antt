@@ -1,0 +1,4 @@
+pub mod Signed
+pub mod Degrees
+pub mod Claims
+pub mod Unique

@@ -1,0 +1,78 @@
+// Document 01, condition 1: the leading matrix.
+ghost use mathlib.Core.Path.{_≡_};
+ghost use Prim.Native.Nat.{_<_, _≤_};
+ghost use Rattle.rules.specs.Sizes.{most-rows};
+ghost use Rattle.layout.specs.Flat.{cell};
+ghost use Rattle.degrees.specs.Degrees.{Sized};
+ghost use Rattle.matrix.specs.Leading.{at-power, leading-number};
+ghost use Rattle.matrix.specs.Fill.{row-of, array-of};
+use degrees::minus;
+use degrees::row_degree;
+use layout::COLUMNS;
+use layout::ENTRY_COEFFICIENTS;
+use layout::LENGTH;
+use layout::ROWS;
+use layout::SQUARE;
+use layout::entry_place;
+
+// entries: the coefficients of P. i and j: a row and a column. power: any number.
+// The coefficient of the entry there at the power, 0 where there is none or the power is negative.
+fn entry_at(entries: &[u32; ENTRY_COEFFICIENTS], power: i32, i: usize, j: usize) -> u32
+    requires { ⌜ (i < most-rows) × (j < most-rows) ⌝ }
+    ensures { λ r. ⌜ r ≡ at-power power (cell (now (entries .entry)) i j) ⌝ }
+{
+    if power < 0 {
+        return 0;
+    }
+    let k = power as usize;
+    if k < LENGTH {
+        entries[entry_place(i, j, k)]
+    } else {
+        0
+    }
+}
+
+// entries, lengths, shifts, m: of P. i: a row.
+// The row i of the leading matrix, and zeros.
+fn leading_row<'a>(
+    entries: &'a [u32; ENTRY_COEFFICIENTS],
+    lengths: &'a [usize; SQUARE],
+    shifts: [i32; ROWS],
+    m: usize,
+    i: usize,
+) -> [u32; COLUMNS]
+    requires { ⌜ Sized (now lengths) shifts ⌝ }
+    requires { ⌜ (0 < m) × ((m ≤ most-rows) × (i < most-rows)) ⌝ }
+    ensures { λ r. ⌜ r ≡ row-of m (leading-number (now (entries .entry)) (now (lengths .entry)) shifts m i) ⌝ }
+{
+    let degree = row_degree(lengths, shifts, m, i);
+    let mut row = [0; COLUMNS];
+    let mut j = 0;
+    while j < m {
+        let power = minus(degree, shifts[j]);
+        row[j] = entry_at(entries, power, i, j);
+        j += 1;
+    }
+    row
+}
+
+// entries, lengths, shifts, m: of P.
+// The leading matrix, and zeros.
+pub fn leading_matrix<'a>(
+    entries: &'a [u32; ENTRY_COEFFICIENTS],
+    lengths: &'a [usize; SQUARE],
+    shifts: [i32; ROWS],
+    m: usize,
+) -> [[u32; COLUMNS]; ROWS]
+    requires { ⌜ Sized (now lengths) shifts ⌝ }
+    requires { ⌜ (0 < m) × (m ≤ most-rows) ⌝ }
+    ensures { λ r. ⌜ r ≡ array-of m m (leading-number (now (entries .entry)) (now (lengths .entry)) shifts m) ⌝ }
+{
+    let mut rows = [[0; COLUMNS]; ROWS];
+    let mut i = 0;
+    while i < m {
+        rows[i] = leading_row(entries, lengths, shifts, m, i);
+        i += 1;
+    }
+    rows
+}
