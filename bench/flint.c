@@ -25,27 +25,36 @@ static void set_polynomial(nmod_poly_t f, const uint32_t *coefficients, int leng
     _nmod_poly_normalise(f);
 }
 
-static slong row_degree(const struct claim *c, const nmod_poly_mat_t P, int i)
+struct row_degree {
+    bool none;
+    slong degree; /* for the shift; may be negative */
+};
+
+/* A zero entry has no degree and takes no part in its row's; a row of zeros has none. */
+static struct row_degree row_degree(const struct claim *c, const nmod_poly_mat_t P, int i)
 {
-    slong largest = WORD_MIN;
+    struct row_degree row = {.none = true};
     for (int j = 0; j < c->m; j++) {
-        slong degree = FLINT_MAX(nmod_poly_degree(nmod_poly_mat_entry(P, i, j)), 0) + c->shift[j];
-        largest = FLINT_MAX(largest, degree);
+        slong degree = nmod_poly_degree(nmod_poly_mat_entry(P, i, j)) + c->shift[j];
+        if (!nmod_poly_is_zero(nmod_poly_mat_entry(P, i, j)) && (row.none || degree > row.degree))
+            row = (struct row_degree){.degree = degree};
     }
-    return largest;
+    return row;
 }
 
 static bool reduced(const struct claim *c, const nmod_poly_mat_t P)
 {
+    bool all = true;
     nmod_mat_t leading;
     nmod_mat_init(leading, c->m, c->m, c->p);
-    for (int i = 0; i < c->m; i++) {
-        slong degree = row_degree(c, P, i);
-        for (int j = 0; j < c->m; j++)
-            if (degree >= c->shift[j])
-                nmod_mat_entry(leading, i, j) = nmod_poly_get_coeff_ui(nmod_poly_mat_entry(P, i, j), degree - c->shift[j]);
+    for (int i = 0; i < c->m && all; i++) {
+        struct row_degree row = row_degree(c, P, i);
+        all = !row.none;
+        for (int j = 0; j < c->m && all; j++)
+            if (row.degree >= c->shift[j])
+                nmod_mat_entry(leading, i, j) = nmod_poly_get_coeff_ui(nmod_poly_mat_entry(P, i, j), row.degree - c->shift[j]);
     }
-    bool good = nmod_mat_det(leading) != 0;
+    bool good = all && nmod_mat_det(leading) != 0;
     nmod_mat_clear(leading);
     return good;
 }
@@ -128,9 +137,9 @@ static uint64_t product_verdict(const struct claim *c, const nmod_poly_mat_t P)
         return fault;
     if (!full_rank(c, P))
         return packed(13, 0, 0, 0);
-    slong sum = 0;
+    slong sum = 0; /* every row of a reduced P has a degree */
     for (int i = 0; i < c->m; i++)
-        sum += row_degree(c, P, i) - c->shift[i];
+        sum += row_degree(c, P, i).degree - c->shift[i];
     return packed(0, 0, 0, (size_t)sum);
 }
 

@@ -1,5 +1,5 @@
 /*
- * The board's checks in plain C, written from document 01 alone: what the board is held against for verdicts and for speed.
+ * The board's checks in plain C, written from the client's rules alone: what the board is held against for verdicts and for speed.
  *
  * Residues are below p < 2^31, so a product is below p * p < 2^62. Sums of products are kept below p * p by a subtraction and divided
  * once at the end.
@@ -14,6 +14,11 @@ enum { MOST_DETERMINANT = MOST_ROWS * (MOST_LENGTH - 1) + 1, MOST_COLUMNS = 2 * 
 struct polynomial {
     int length;
     uint32_t at[MOST_DETERMINANT];
+};
+
+struct row_degree {
+    bool none;
+    int degree; /* for the shift; may be negative */
 };
 
 static uint32_t power(uint32_t base, uint32_t exponent, uint32_t p)
@@ -106,24 +111,27 @@ static int rank(uint32_t a[MOST_ROWS][MOST_COLUMNS], int rows, int columns, uint
     return done;
 }
 
-static int row_degree(const struct claim *c, int i)
+/* A zero entry has no degree and takes no part in its row's; a row of zeros has none. */
+static struct row_degree row_degree(const struct claim *c, int i)
 {
-    int largest = INT32_MIN;
+    struct row_degree row = {.none = true};
     for (int j = 0; j < c->m; j++) {
-        int degree = (c->length[i][j] > 0 ? c->length[i][j] - 1 : 0) + c->shift[j];
-        if (degree > largest)
-            largest = degree;
+        int degree = c->length[i][j] - 1 + c->shift[j];
+        if (c->length[i][j] > 0 && (row.none || degree > row.degree))
+            row = (struct row_degree){.degree = degree};
     }
-    return largest;
+    return row;
 }
 
 static bool reduced(const struct claim *c)
 {
     uint32_t leading[MOST_ROWS][MOST_COLUMNS] = {{0}};
     for (int i = 0; i < c->m; i++) {
-        int degree = row_degree(c, i);
+        struct row_degree row = row_degree(c, i);
+        if (row.none)
+            return false;
         for (int j = 0; j < c->m; j++) {
-            int at = degree - c->shift[j];
+            int at = row.degree - c->shift[j];
             if (0 <= at && at < c->length[i][j])
                 leading[i][j] = c->entry[i][j][at];
         }
@@ -208,11 +216,12 @@ static bool full_rank(const struct claim *c)
     return rank(beside, c->m, c->m + c->n, c->p) == c->m;
 }
 
+/* Of a reduced claim, whose rows all have a degree. */
 static size_t degree_sum(const struct claim *c)
 {
     int sum = 0;
     for (int i = 0; i < c->m; i++)
-        sum += row_degree(c, i) - c->shift[i];
+        sum += row_degree(c, i).degree - c->shift[i];
     return (size_t)sum;
 }
 

@@ -42,7 +42,7 @@ enum board_verdict {
     BOARD_RANGE = 6,        /* a coefficient, or a number of the evidence, is p or more */
     BOARD_LAST_ZERO = 7,    /* the last coefficient of an entry is 0 */
     BOARD_SURPLUS = 8,      /* bytes after the last record */
-    BOARD_NOT_REDUCED = 9,  /* the answer's matrix P is not reduced for the shift */
+    BOARD_NOT_REDUCED = 9,  /* the answer's matrix P is not reduced for the shift; with a row of zeros it never is */
     BOARD_DETERMINANT = 10, /* the determinant of P is not a nonzero constant times a power of X */
     BOARD_PRODUCT = 11,     /* P times F has a coefficient other than 0 below the order */
     BOARD_EVIDENCE = 12,    /* the evidence C differs from the coefficient of P times F at the order */

@@ -1,6 +1,7 @@
 """Wrong judges: the second program with one place changed each. Says for each in
 how many cases of a bundle its output differs from the right one; fails if some
-wrong judge differs in none. Run from the top of the project, after the build:
+wrong judge differs in none. Then judges that say the same in other words, which
+have to differ in none. Run from the top of the project:
 
     python3 second/wrong.py [SEED [COUNT [WORD ...]]]
 
@@ -12,6 +13,11 @@ SOURCE = os.path.join(os.path.dirname(os.path.abspath(__file__)), 'src')
 BUILD = ['rustc', '-C', 'opt-level=1', '--edition', '2021', '--crate-name', 'second', '-Awarnings']
 # the checks of the program against itself are left out of the wrong judges
 BASE = [('verdict.rs','    plain::compare(&problem, &answer.basis, &answer.evidence, code, at)?;\n','')]
+# places in row_degree and in four
+FILTER = '        .filter(|(e, _)| !e.is_empty())\n'
+SHIFTED = '        .map(|(e, s)| e.len() as i64 - 1 + s)\n'
+LARGEST = '        .max()\n}'
+ZERO_ROW = '        return Ok((9, 0, 0, 0));\n    };'
 WRONG = [
 ('no det',[('verdict.rs','count() != 1 {','count() != 1 && false {')]),
 ('rank P0 alone',[('verdict.rs','            row.extend(&evidence[i]);','            if evidence.len()>9 {row.push(1);}')]),
@@ -32,10 +38,23 @@ WRONG = [
             }''','''                return Ok((11, 2, i as u32, j as u64));
             }
             if r[i][j][problem.d[j]] != evidence[i][j] { return Ok((12, 2, i as u32, j as u64)); }''')]),
-('zero entry no degree',[('verdict.rs','s + (e.len() as i64 - 1).max(0)','if e.is_empty() {-5000} else {s + (e.len() as i64 - 1)}'),('verdict.rs','if sum < 0 {','if sum < 0 { return Ok((9,0,0,0)); } if false {'),]),
-('zero entry degree -1',[('verdict.rs','s + (e.len() as i64 - 1).max(0)','s + (e.len() as i64 - 1)'),('verdict.rs','if sum < 0 {','if sum < 0 { return Ok((9,0,0,0)); } if false {'),]),
-('shift ignored',[('verdict.rs','s + (e.len() as i64 - 1).max(0)','0*s + (e.len() as i64 - 1).max(0)'),('verdict.rs','- problem.s.iter().sum::<i64>();','- 0*problem.s.iter().sum::<i64>();'),('verdict.rs','if top != poly::determinant_permutations(&leading(basis, &problem.s), p) {','if false {')]),
-('det capped 63',[('verdict.rs','let top = poly::coefficient(&det, sum as usize);','let top = if sum>63 {0} else {poly::coefficient(&det, sum as usize)};'),('verdict.rs','if top != poly::determinant_permutations','if false && top != poly::determinant_permutations')]),
+('zero entry of degree 0',[('verdict.rs',FILTER+SHIFTED,'        .map(|(e, s)| (e.len() as i64 - 1).max(0) + s)\n')]),
+('zero entry of degree -1',[('verdict.rs',FILTER,'')]),
+('zero entry of degree -1000',[('verdict.rs',FILTER+SHIFTED,'        .map(|(e, s)| if e.is_empty() { s - 1000 } else { e.len() as i64 - 1 + s })\n')]),
+('zero entry 0 without shift',[('verdict.rs',FILTER+SHIFTED,'        .map(|(e, s)| if e.is_empty() { 0 } else { e.len() as i64 - 1 + s })\n')]),
+('zero first entry of degree 0',[('verdict.rs',FILTER+SHIFTED,'        .filter(|(e, t)| !e.is_empty() || std::ptr::eq(*t, &s[0]))\n        .map(|(e, s)| (e.len() as i64 - 1).max(0) + s)\n')]),
+('zero last entry of degree 0',[('verdict.rs',FILTER+SHIFTED,'        .filter(|(e, t)| !e.is_empty() || std::ptr::eq(*t, &s[s.len() - 1]))\n        .map(|(e, s)| (e.len() as i64 - 1).max(0) + s)\n')]),
+('row with a zero entry has none',[('verdict.rs',FILTER,'        .filter(|_| row.iter().all(|e| !e.is_empty()))\n')]),
+('row degree at least 0',[('verdict.rs',LARGEST,'        .max()\n        .map(|u| u.max(0))\n}')]),
+('row degree at least -999',[('verdict.rs',LARGEST,'        .max()\n        .map(|u| u.max(-999))\n}')]),
+('row degree without the shift',[('verdict.rs','e.len() as i64 - 1 + s)','e.len() as i64 - 1 + 0 * s)')]),
+('shift of the longest entry',[('verdict.rs',SHIFTED+LARGEST,'        .max_by_key(|(e, _)| e.len())\n        .map(|(e, s)| e.len() as i64 - 1 + s)\n}')]),
+('shift ignored',[('verdict.rs','e.len() as i64 - 1 + s)','e.len() as i64 - 1 + 0 * s)'),('verdict.rs','- problem.s.iter().sum::<i64>();','- 0 * problem.s.iter().sum::<i64>();')]),
+('zero row goes on to 10',[('verdict.rs',ZERO_ROW,'        return Ok((10, 0, 0, 0));\n    };')]),
+('shifts 17 apart refused',[('verdict.rs','    let top =','    if problem.s.iter().any(|a| problem.s.iter().any(|b| a - b > 16)) { return Ok((9, 0, 0, 0)); }\n    let top =')]),
+('Delta with zero entries',[('verdict.rs','Ok((0, 0, 0, sum as u64))','Ok((0, 0, 0, (basis.iter().map(|row| row.iter().zip(&problem.s).map(|(e, s)| (e.len() as i64 - 1).max(0) + s).max().unwrap()).sum::<i64>() - problem.s.iter().sum::<i64>()) as u64))')]),
+('evidence refuses a zero row',[('verdict.rs','    let code = if lent','    if row_degrees(&answer.basis, &problem.s).is_none() { return Verdict { code: 9, file: 0, record: 0, at: 0, part: (1, 0, 0) }; }\n    let code = if lent')]),
+('det capped 63',[('verdict.rs','let top = at_power(&det, sum);','let top = if sum > 63 { 0 } else { at_power(&det, sum) };')]),
 ('10 before 9',[('verdict.rs','    if top == 0 {','    if det.iter().filter(|c| **c != 0).count() != 1 {return Ok((10, 0, 0, 0));}\n    if top == 0 {')]),
 ('rank before product',[('verdict.rs','    let r = product(problem, basis);\n    for i','''    let rows: Vec<Vec<u64>> = (0..problem.m).map(|i| { let mut row: Vec<u64> = basis[i].iter().map(|e| poly::coefficient(e, 0)).collect(); row.extend(&evidence[i]); row }).collect();
     if !full_rank_by_minors(&rows, p) { return Ok((13,0,0,0)); }
@@ -76,8 +95,19 @@ WRONG = [
 ('sum Delta without shifts',[('verdict.rs','Ok((0, 0, 0, sum as u64))','Ok((0, 0, 0, (sum + problem.s.iter().sum::<i64>()) as u64))')]),
 ('cut at 16384',[('verdict.rs','    let v = judge(problem, answer)?;','    let problem=&problem[..problem.len().min(16384)]; let answer=&answer[..answer.len().min(16384)];\n    let v = judge(problem, answer)?;')]),
 ]
+# other words for the same rule, which no verdict can tell from it (README.md says why); they decide by the leading matrix itself
+LEADING = ('verdict.rs','let top = at_power(&det, sum);','let top = leading(basis, &problem.s).map_or(0, |l| poly::determinant_permutations(&l, p));')
+AT_POWER = 'usize::try_from(power).map_or(0, |k| poly::coefficient(e, k))'
+SAME = [
+('the leading matrix',[LEADING]),
+('zero row of degree 0',[LEADING,('verdict.rs',LARGEST,'        .max()\n        .or(Some(0))\n}')]),
+('zero row of degree -1000',[LEADING,('verdict.rs',LARGEST,'        .max()\n        .or(Some(-1000))\n}')]),
+('zero entry as -1000',[LEADING,('verdict.rs',FILTER+SHIFTED,'        .map(|(e, s)| if e.is_empty() { -1000 } else { e.len() as i64 - 1 + s })\n')]),
+('negative power read as 0',[LEADING,('verdict.rs',AT_POWER,'poly::coefficient(e, power.max(0) as usize)')]),
+('negative power without its sign',[LEADING,('verdict.rs',AT_POWER,'poly::coefficient(e, power.unsigned_abs() as usize)')]),
+]
 QUIET = ['top coefficient and leading determinant differ', 'the two ranks differ',
-         'the determinant has a power above the degree sum']
+         'the determinant has a power above the degree sum', 'a row of zeros and a determinant other than 0']
 
 
 def build(edits, place):
@@ -101,28 +131,33 @@ def build(edits, place):
 
 
 def said(program, bundle):
-    return subprocess.run([program, 'expect', bundle], capture_output=True, text=True).stdout.split('\n')[:-1]
+    run = subprocess.run([program, 'expect', bundle], capture_output=True, text=True)
+    if run.returncode:
+        sys.exit('a judge stops: ' + run.stderr)
+    return run.stdout.split('\n')[:-1]
 
 
 def main():
     seed = sys.argv[1] if len(sys.argv) > 1 else '1'
     count = sys.argv[2] if len(sys.argv) > 2 else '20000'
     words = sys.argv[3:]
-    unseen = 0
+    unseen = told_apart = 0
     with tempfile.TemporaryDirectory() as place:
         bundle = os.path.join(place, 'bundle')
         right = build([], place)
         subprocess.run([right, 'make', '--seed', seed, '--count', count, '--out', bundle], check=True)
         due = said(right, bundle)
-        for name, edits in WRONG:
+        for name, edits in WRONG + SAME:
             if words and not any(w in name for w in words):
                 continue
             got = said(build(BASE + edits, place), bundle)
             differ = sum(due[k:k + 3] != got[k:k + 3] for k in range(0, len(due), 3))
-            unseen += differ == 0
-            print('%-32s %d cases differ' % (name, differ), flush=True)
-    print('%d wrong judges not seen' % unseen)
-    sys.exit(1 if unseen else 0)
+            same = (name, edits) in SAME
+            unseen += not same and differ == 0
+            told_apart += same and differ != 0
+            print('%-32s %d cases differ%s' % (name, differ, ', as they should' if same and differ == 0 else ''), flush=True)
+    print('%d wrong judges not seen, %d told apart that say the same' % (unseen, told_apart))
+    sys.exit(1 if unseen or told_apart else 0)
 
 
 main()

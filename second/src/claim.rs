@@ -5,6 +5,7 @@ use crate::field;
 use crate::poly::{self, Matrix, Poly};
 use crate::random::Random;
 use crate::read::Problem;
+use crate::verdict;
 
 #[derive(Clone)]
 pub struct Claim {
@@ -138,6 +139,13 @@ impl Claim {
         sum
     }
 
+    /// Sets F to zero.
+    pub fn clear_series(&mut self) {
+        for e in self.f.iter_mut().flatten() {
+            e.fill(0);
+        }
+    }
+
     /// Sets the evidence to what it has to be.
     pub fn attest(&mut self) {
         self.evidence = self
@@ -147,19 +155,9 @@ impl Claim {
             .collect();
     }
 
-    /// Row degrees where a zero entry has none; a zero row counts as -100000.
-    pub fn degrees(&self) -> Vec<i64> {
-        self.basis
-            .iter()
-            .map(|row| {
-                row.iter()
-                    .zip(&self.s)
-                    .filter(|(e, _)| !e.is_empty())
-                    .map(|(e, s)| e.len() as i64 - 1 + s)
-                    .max()
-                    .unwrap_or(-100_000)
-            })
-            .collect()
+    /// The degree of each row for the shift; a row of zeros has none.
+    pub fn degrees(&self) -> Vec<Option<i64>> {
+        self.basis.iter().map(|row| verdict::row_degree(row, &self.s)).collect()
     }
 
     /// Row `to` plus c X^e times row `from`.
@@ -251,7 +249,18 @@ impl Claim {
                 self.basis = next;
             }
         }
-        assert!(u == self.degrees(), "row degrees of the iteration");
+        let grown_to: Vec<Option<i64>> = u.into_iter().map(Some).collect();
+        assert!(grown_to == self.degrees(), "row degrees of the iteration");
+        self.attest();
+    }
+
+    /// Rows put into another order and scaled: zero entries stay zero.
+    pub fn turn(&mut self, random: &mut Random) {
+        self.basis = random.order(self.m).into_iter().map(|i| self.basis[i].clone()).collect();
+        for i in 0..self.m {
+            let c = 1 + random.next() % (self.p - 1).max(1);
+            self.times_row(i, &vec![c]);
+        }
         self.attest();
     }
 
@@ -262,18 +271,20 @@ impl Claim {
         for _ in 0..turns {
             let i = random.below(self.m);
             let k = random.below(self.m);
-            let u = self.degrees();
+            let degrees = self.degrees();
+            // by how much row i is above row k, where both have a degree
+            let above = degrees[i].zip(degrees[k]).map(|(a, b)| a - b);
             if i == k {
                 let c = 1 + random.next() % (self.p - 1).max(1);
                 self.times_row(i, &vec![c]);
             } else if random.chance(15) {
                 self.basis.swap(i, k);
-            } else if u[k] <= u[i] {
+            } else if let Some(above) = above.filter(|a| *a >= 0) {
                 let longest = self.basis[k].iter().map(|e| e.len()).max().unwrap().max(1) - 1;
                 if longest > cap {
                     continue;
                 }
-                let room = ((u[i] - u[k]) as usize).min(cap - longest);
+                let room = (above as usize).min(cap - longest);
                 let e = if random.chance(50) { room } else { random.below(room + 1) };
                 let c = 1 + random.next() % (self.p - 1).max(1);
                 self.add_row(i, k, c, e);

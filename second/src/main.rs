@@ -226,6 +226,7 @@ fn check(name: &str, output: &str) -> Result<bool, String> {
 
 fn counts(name: &str) -> Result<(), String> {
     let (mut judged, mut made, mut both) = ([0u64; 15], [0u64; 15], 0u64);
+    let (mut apart, mut negative, mut zero_rows) = ([0u64; 15], [0u64; 15], 0u64);
     let (mut passes, mut below, mut at, mut degree) = ([[0u64; ROWS]; ROWS], [[0u64; ROWS]; ROWS], [[0u64; ROWS]; ROWS], 0);
     let bad = walk(name, |_, said| {
         let said = said?;
@@ -240,14 +241,20 @@ fn counts(name: &str) -> Result<(), String> {
             12 => at[v.record as usize][v.at as usize] += 1,
             _ => {}
         }
+        if let Some(shape) = &said.shape {
+            apart[v.code as usize] += shape.apart as u64;
+            negative[v.code as usize] += shape.negative as u64;
+            zero_rows += shape.zero_row as u64;
+        }
         made[said.made as usize] += 1;
         both += 1;
         Ok(())
     })?;
-    println!("code     judge  evidence");
+    println!("code     judge     apart  negative  evidence");
     for k in 0..15 {
-        println!("{k:>4} {:>9} {:>9}", judged[k], made[k]);
+        println!("{k:>4} {:>9} {:>9} {:>9} {:>9}", judged[k], apart[k], negative[k], made[k]);
     }
+    println!("apart: two shifts differ by more than 16; negative: a zero entry is asked for a negative power; rows of zeros in {zero_rows}");
     println!("passes by m (down) and n: {passes:?}, largest degree sum {degree}");
     println!("places of 11 by row and column: {below:?}");
     println!("places of 12 by row and column: {at:?}");

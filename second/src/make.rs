@@ -88,6 +88,15 @@ fn some_number(p: u64, random: &mut Random) -> u64 {
     }
 }
 
+/// An entry of that length.
+fn some_entry(length: usize, p: u64, random: &mut Random) -> Poly {
+    let mut e: Poly = (0..length).map(|_| some_number(p, random)).collect();
+    if let Some(last) = e.last_mut() {
+        *last = 1 + random.next() % (p - 1).max(1);
+    }
+    e
+}
+
 fn some_orders(n: usize, random: &mut Random) -> Vec<usize> {
     let kind = random.below(8);
     let same = 1 + random.below(ORDER);
@@ -104,7 +113,29 @@ fn some_orders(n: usize, random: &mut Random) -> Vec<usize> {
         .collect()
 }
 
-fn some_shifts(m: usize, random: &mut Random) -> Vec<i64> {
+/// Shifts on two levels that are about 16 apart, which is as far as the degree
+/// of an entry reaches, or more; and some between them.
+fn far_shifts(m: usize, random: &mut Random) -> Vec<i64> {
+    let (low, high) = random.pick(&[
+        (-SHIFT, SHIFT), (-SHIFT, SHIFT), (-SHIFT, 17 - SHIFT), (SHIFT - 17, SHIFT), (-SHIFT, 0), (0, SHIFT),
+        (-40, -3), (-900, -300), (0, 16), (0, 17), (0, 18), (-9, 100), (300, 900),
+    ]);
+    let about = random.pick(&[0, 0, 1, 3]);
+    random
+        .order(m)
+        .into_iter()
+        .map(|place| {
+            let between = random.between(low, high);
+            let level = [low, high, random.pick(&[low, high, between])][place.min(2)];
+            (level + random.between(-about, about)).clamp(-SHIFT, SHIFT)
+        })
+        .collect()
+}
+
+pub fn some_shifts(m: usize, random: &mut Random) -> Vec<i64> {
+    if random.chance(35) {
+        return far_shifts(m, random);
+    }
     let kind = random.below(14);
     let base = random.pick(&[-SHIFT, 1 - SHIFT, -500, -16, -1, 0, 1, 7, 500, 983, SHIFT - 1, SHIFT]);
     let step = random.between(-20, 20);
@@ -172,8 +203,11 @@ pub fn some_problem(random: &mut Random, small: bool) -> Claim {
         m = random.pick(&[1, 2, 2, 2, 3]);
         n = random.pick(&[1, 1, 2, 3]);
         d = (0..n).map(|_| 1 + random.below(if m < 3 { 4 } else { 3 })).collect();
-        let spread = random.pick(&[0, 0, 1, 2]);
+        let spread = random.pick(&[0, 0, 1, 2, 5]);
         s = (0..m).map(|_| random.between(-spread, spread)).collect();
+        if random.chance(45) {
+            s = far_shifts(m, random);
+        }
     }
     let mut claim = Claim {
         p,
@@ -201,6 +235,114 @@ pub fn honest(random: &mut Random, small: bool) -> Claim {
         _ => claim.mix(12, 20, random),
     }
     claim
+}
+
+/// The identity with entries below it, in the order of the shifts, that leave
+/// it reduced: X^0 stands at the degree of its row. F is zero, so that it is a
+/// basis.
+fn triangle(claim: &mut Claim, random: &mut Random) {
+    let p = claim.p;
+    claim.clear_series();
+    claim.identity(0);
+    let filled = random.below(101);
+    for i in 0..claim.m {
+        for k in 0..claim.m {
+            let room = claim.s[i] - claim.s[k];
+            if (room > 0 || room == 0 && k < i) && random.chance(filled) {
+                let length = random.below((room as usize).min(LENGTH - 1) + 2);
+                claim.basis[i][k] = some_entry(length, p, random);
+            }
+        }
+    }
+}
+
+/// Powers of X on the diagonal, for a problem that has them as its basis: at
+/// most n rows have a power above 0, each with a column of its own whose
+/// coefficient at the order it meets.
+fn diagonal(claim: &mut Claim, random: &mut Random) {
+    let p = claim.p;
+    claim.clear_series();
+    claim.identity(0);
+    let columns = random.order(claim.n);
+    for (i, own) in random.order(claim.m).into_iter().zip(columns) {
+        let power = random.below(claim.d[own] + 1);
+        if power == 0 {
+            continue;
+        }
+        claim.basis[i][i] = poly::scaled(&vec![1], 1, power, p);
+        for j in 0..claim.n {
+            for k in (claim.d[j] + 1).saturating_sub(power)..claim.d[j] {
+                claim.f[i][j][k] = some_number(p, random);
+            }
+        }
+        claim.f[i][own][claim.d[own] - power] = 1 + random.next() % (p - 1).max(1);
+    }
+}
+
+/// A problem whose F is mostly zero: rows that are zero, or that meet few
+/// columns or powers; and its basis by the iteration.
+fn thin(claim: &mut Claim, random: &mut Random) {
+    let p = claim.p;
+    claim.clear_series();
+    for i in 0..claim.m {
+        for j in 0..claim.n {
+            match random.below(6) {
+                0 | 1 => {
+                    let k = random.below(claim.d[j]);
+                    claim.f[i][j][k] = some_number(p, random);
+                }
+                2 => claim.f[i][j].fill_with(|| random.next() % p),
+                _ => {}
+            }
+        }
+    }
+    claim.iterate(random.chance(40), random.chance(50), random);
+}
+
+/// A true basis with many zero entries: an identity, a triangle, a diagonal or
+/// what the iteration gives for a thin F, its rows in any order, mostly under
+/// shifts that are far apart.
+pub fn sparse(random: &mut Random, small: bool) -> Claim {
+    let mut claim = some_problem(random, small);
+    while claim.m == 1 {
+        claim = some_problem(random, small);
+    }
+    if random.chance(75) {
+        claim.s = far_shifts(claim.m, random);
+    }
+    match random.below(8) {
+        0 => {
+            claim.clear_series();
+            claim.identity(0);
+        }
+        1 | 2 => triangle(&mut claim, random),
+        3 | 4 => diagonal(&mut claim, random),
+        _ => thin(&mut claim, random),
+    }
+    if random.chance(70) {
+        claim.turn(random);
+    }
+    claim.attest();
+    claim
+}
+
+/// A multiple of one row added to another that lifts it above its degree: the
+/// same rows are generated, but no longer by a reduced basis. False where the
+/// two rows drawn don't allow it and nothing is changed.
+pub fn lift(claim: &mut Claim, random: &mut Random) -> bool {
+    let degrees = claim.degrees();
+    let (to, from) = (random.below(claim.m), random.below(claim.m));
+    let Some((high, low)) = degrees[to].zip(degrees[from]) else {
+        return false;
+    };
+    let e = (high - low + 1).max(0) as usize + random.pick(&[0, 0, 1]);
+    if to == from || e >= LENGTH {
+        return false;
+    }
+    let c = 1 + random.next() % (claim.p - 1).max(1);
+    claim.add_row(to, from, c, e);
+    claim.attest();
+    true
 }
 
 /// One way to spoil a claim; some of them keep a basis. Evidence is made
@@ -344,6 +486,23 @@ pub fn spoil(claim: &mut Claim, way: usize, random: &mut Random) {
             renew = false;
         }
         28 => claim.identity(random.below(3)),
+        29 => {
+            // an entry where none was, most often in the column of the largest shift
+            let largest = (0..m).max_by_key(|l| claim.s[*l]).unwrap();
+            let l = if random.chance(60) { largest } else { k };
+            if let Some(row) = (0..m).find(|row| claim.basis[*row][l].is_empty()) {
+                let length = 1 + random.below(3);
+                claim.basis[row][l] = some_entry(length, p, random);
+            }
+        }
+        30 => claim.s = random.order(m).into_iter().map(|l| claim.s[l]).collect(),
+        31 => claim.s[i] = random.pick(&[-SHIFT, SHIFT]),
+        32 => {
+            // nothing but one entry in a row
+            let kept = std::mem::take(&mut claim.basis[i][k]);
+            claim.basis[i].fill(Vec::new());
+            claim.basis[i][k] = kept;
+        }
         _ => {
             for row in claim.s.iter_mut() {
                 *row = (*row + random.between(-1, 1)).clamp(-SHIFT, SHIFT);
@@ -355,7 +514,7 @@ pub fn spoil(claim: &mut Claim, way: usize, random: &mut Random) {
     }
 }
 
-pub const WAYS: usize = 30;
+pub const WAYS: usize = 34;
 
 fn random_power(random: &mut Random) -> usize {
     random.pick(&[0, 0, 1, 2])
@@ -407,12 +566,16 @@ fn chance_claim(random: &mut Random) -> Claim {
     claim
 }
 
-/// An honest basis for even shifts, or a diagonal one, with faults of the
-/// product at places of chance: one or two at the order, below it, or both.
+/// An honest basis for shifts that are even or far apart, or a diagonal one,
+/// with faults of the product at places of chance: one or two at the order,
+/// below it, or both.
 fn placed(random: &mut Random) -> Claim {
     let mut claim = some_problem(random, false);
     let (p, m, n) = (claim.p, claim.m, claim.n);
     claim.s = vec![random.pick(&[-SHIFT, -1, 0, 1, SHIFT]); m];
+    if random.chance(40) {
+        claim.s = far_shifts(m, random);
+    }
     let largest = *claim.d.iter().max().unwrap();
     if random.chance(50) {
         claim.iterate(random.chance(50), random.chance(50), random);
@@ -739,7 +902,7 @@ impl Maker {
 
     /// What every bundle begins with, whatever its seed.
     fn first(&mut self) {
-        for (claim, _) in worked() {
+        for (claim, _) in worked().into_iter().chain(zero_entries()) {
             self.both(&claim);
         }
         let disk = worked().into_iter().find(|(c, _)| c.m == 2).unwrap().0;
@@ -760,18 +923,23 @@ impl Maker {
         // every m and n
         for m in 1..=ROWS {
             for n in 1..=ROWS {
-                for kind in 0..4 {
+                for kind in 0..6 {
                     let mut claim = some_problem(&mut self.random, false);
                     (claim.m, claim.n) = (m, n);
-                    claim.d = (0..n).map(|_| [1, 2, ORDER, 1 + self.random.below(ORDER)][kind]).collect();
-                    claim.s = vec![[0, -SHIFT, SHIFT, 3][kind]; m];
+                    claim.d = (0..n).map(|_| [1, 2, ORDER, 1 + self.random.below(ORDER), 3, 4][kind]).collect();
+                    // even shifts, then such as are far apart, falling or rising
+                    claim.s = (0..m as i64)
+                        .map(|i| [0, -SHIFT, SHIFT, 3, SHIFT - i * 600, 17 * i - SHIFT][kind])
+                        .collect();
                     claim.f = (0..m).map(|_| claim.d.iter().map(|d| vec![0; *d]).collect()).collect();
                     let p = claim.p;
                     for x in claim.f.iter_mut().flatten().flatten() {
                         *x = self.random.next() % p;
                     }
                     claim.iterate(kind % 2 == 0, kind < 2, &mut self.random);
-                    claim.mix(8, LENGTH - 1, &mut self.random);
+                    if kind < 4 {
+                        claim.mix(8, LENGTH - 1, &mut self.random);
+                    }
                     self.both(&claim);
                     self.put(claim.problem().bytes, claim.answer(false).bytes, 1 + 4 * m * n);
                     self.put(claim.problem().bytes, claim.answer(false).bytes, 3 + 4 * m * n);
@@ -783,18 +951,37 @@ impl Maker {
             assert!(claim.problem().bytes.len() == 1060 && claim.answer(true).bytes.len() == 1234);
             self.both(&claim);
         }
+        for claim in every_place() {
+            self.put(claim.problem().bytes, claim.answer(true).bytes, 66);
+        }
+    }
+
+    /// A true basis, that share of them with many zero entries.
+    fn basis(&mut self, percent: usize, small: bool) -> Claim {
+        if self.random.chance(percent) {
+            sparse(&mut self.random, small)
+        } else {
+            honest(&mut self.random, small)
+        }
     }
 
     fn refill(&mut self) {
         let small = self.random.chance(35);
         let with_evidence = self.random.chance(70);
         match self.random.below(10_000) {
-            0..=2399 => {
-                let claim = honest(&mut self.random, small);
+            0..=2099 => {
+                let claim = self.basis(25, small);
                 self.claim(&claim);
             }
-            2400..=6399 => {
-                let mut claim = honest(&mut self.random, small);
+            2100..=2699 => {
+                let mut claim = self.basis(50, small);
+                for _ in 0..3 {
+                    lift(&mut claim, &mut self.random);
+                }
+                self.claim(&claim);
+            }
+            2700..=6399 => {
+                let mut claim = self.basis(30, small);
                 let times = self.random.pick(&[1, 1, 1, 2, 2, 3]);
                 for _ in 0..times {
                     let way = self.random.below(WAYS);
@@ -898,5 +1085,123 @@ pub fn worked() -> Vec<(Claim, &'static str)> {
         (two([-1, 0], [0, 1]), "pass 2"),
         (two([0, 2], [0, 1]), "refuse 9 0 0 0"),
         (two([0, 0], [0, 0]), "refuse 12 2 1 0"),
+    ]
+}
+
+/// The identity of the largest size with one fault at each place of the
+/// product, below the order or at it; and the largest powers on the diagonal,
+/// which have the largest degree sum. Each for even shifts and for shifts that
+/// are far apart.
+fn every_place() -> Vec<Claim> {
+    let mut all = Vec::new();
+    for s in [[0; ROWS], [-SHIFT, SHIFT, 0, 5]] {
+        let mut claim = Claim {
+            p: 11,
+            m: ROWS,
+            n: ROWS,
+            d: vec![ORDER; ROWS],
+            s: s.to_vec(),
+            f: vec![vec![vec![0; ORDER]; ROWS]; ROWS],
+            basis: Vec::new(),
+            evidence: Vec::new(),
+        };
+        claim.identity(0);
+        claim.attest();
+        for (i, j) in (0..ROWS).flat_map(|i| (0..ROWS).map(move |j| (i, j))) {
+            let mut below = claim.clone();
+            below.f[i][j][ORDER - 1] = 1;
+            let mut at = claim.clone();
+            at.evidence[i][j] = 10;
+            all.extend([below, at]);
+        }
+        claim.identity(ORDER);
+        for i in 0..ROWS {
+            claim.f[i][i][0] = 1;
+        }
+        claim.attest();
+        all.push(claim);
+    }
+    all
+}
+
+/// The rule about zero entries, worked by hand: the lab's claim first, then what
+/// lies about it. p = 7, one column of order 1, F and C zero where nothing else
+/// is said.
+pub fn zero_entries() -> Vec<(Claim, &'static str)> {
+    fn of(s: &[i64], basis: &[&[&[u64]]]) -> Claim {
+        let m = s.len();
+        Claim {
+            p: 7,
+            m,
+            n: 1,
+            d: vec![1],
+            s: s.to_vec(),
+            f: vec![vec![vec![0]]; m],
+            basis: basis.iter().map(|row| row.iter().map(|e| e.to_vec()).collect()).collect(),
+            evidence: vec![vec![0]; m],
+        }
+    }
+    fn with(mut claim: Claim, f: &[u64], c: &[u64]) -> Claim {
+        for i in 0..claim.m {
+            claim.f[i][0][0] = f[i];
+            claim.evidence[i][0] = c[i];
+        }
+        claim
+    }
+    const NO: &[u64] = &[];
+    const ONE: &[u64] = &[1];
+    const X: &[u64] = &[0, 1];
+    const X5: &[u64] = &[2, 0, 0, 0, 0, 1];
+    const X6: &[u64] = &[0, 0, 0, 0, 0, 0, 1];
+    const X16: &[u64] = &[3, 0, 0, 0, 0, 0, 0, 0, 0, 0, 0, 0, 0, 0, 0, 0, 1];
+    let identity: &[&[&[u64]]] = &[&[ONE, NO], &[NO, ONE]];
+    let turned: &[&[&[u64]]] = &[&[NO, ONE], &[ONE, NO]];
+    let three: &[&[&[u64]]] = &[&[ONE, NO, NO], &[NO, ONE, NO], &[NO, NO, ONE]];
+    let three_turned: &[&[&[u64]]] = &[&[NO, NO, ONE], &[ONE, NO, NO], &[NO, ONE, NO]];
+    let four: &[&[&[u64]]] = &[&[ONE, NO, NO, NO], &[NO, ONE, NO, NO], &[NO, NO, ONE, NO], &[NO, NO, NO, ONE]];
+    vec![
+        (of(&[0, 5], identity), "pass 0"),
+        (of(&[5, 0], identity), "pass 0"),
+        (of(&[0, 1], identity), "pass 0"),
+        (of(&[0, 17], identity), "pass 0"),
+        (of(&[-1000, 1000], identity), "pass 0"),
+        (of(&[1000, -1000], identity), "pass 0"),
+        (of(&[-5, -3], identity), "pass 0"),
+        (of(&[-1000, -1000], identity), "pass 0"),
+        (of(&[-999, -1000], identity), "pass 0"),
+        (of(&[0, 5], turned), "pass 0"),
+        (of(&[1000, -1000], turned), "pass 0"),
+        (of(&[0, 5, -1000], three), "pass 0"),
+        (of(&[-1000, 0, 1000], three_turned), "pass 0"),
+        (of(&[-1000, 1000, 0, 5], four), "pass 0"),
+        (of(&[1000, 999, -999, -1000], four), "pass 0"),
+        // entries that stay at or below the degree of their row, and such as drown the 1
+        (of(&[0, 5], &[&[ONE, NO], &[X5, ONE]]), "pass 0"),
+        (of(&[0, 5], &[&[ONE, NO], &[X6, ONE]]), "refuse 9 0 0 0"),
+        (of(&[5, 0], &[&[ONE, ONE], &[NO, ONE]]), "pass 0"),
+        (of(&[0, 5], &[&[ONE, ONE], &[NO, ONE]]), "refuse 9 0 0 0"),
+        (of(&[-1000, 1000], &[&[ONE, NO], &[X16, ONE]]), "pass 0"),
+        (of(&[1000, -1000], &[&[ONE, NO], &[X16, ONE]]), "refuse 9 0 0 0"),
+        // rows of zeros: alone, beside a good row, in the middle, all of them
+        (of(&[0], &[&[NO]]), "refuse 9 0 0 0"),
+        (of(&[-1000], &[&[NO]]), "refuse 9 0 0 0"),
+        (of(&[1000], &[&[NO]]), "refuse 9 0 0 0"),
+        (of(&[0, 5], &[&[ONE, NO], &[NO, NO]]), "refuse 9 0 0 0"),
+        (of(&[0, 5], &[&[NO, NO], &[NO, ONE]]), "refuse 9 0 0 0"),
+        (of(&[-1000, 1000], &[&[NO, NO], &[ONE, NO]]), "refuse 9 0 0 0"),
+        (of(&[0, 5], &[&[NO, NO], &[NO, NO]]), "refuse 9 0 0 0"),
+        (of(&[5, 0, -5], &[&[ONE, NO, NO], &[NO, NO, NO], &[NO, NO, ONE]]), "refuse 9 0 0 0"),
+        // degree sums below 0
+        (of(&[5, 0], &[&[NO, ONE], &[NO, ONE]]), "refuse 9 0 0 0"),
+        (of(&[1000, -1000], &[&[NO, X], &[NO, ONE]]), "refuse 9 0 0 0"),
+        // the other verdicts
+        (with(of(&[0, 1000], &[&[X, NO], &[NO, ONE]]), &[3, 0], &[3, 0]), "pass 1"),
+        (with(of(&[0, 1000], &[&[NO, ONE], &[X, NO]]), &[3, 0], &[0, 3]), "pass 1"),
+        (with(of(&[1000, -1000], &[&[ONE, NO], &[NO, X]]), &[0, 3], &[0, 3]), "pass 1"),
+        (of(&[0, 5], &[&[ONE, NO], &[NO, &[6, 1]]]), "refuse 10 0 0 0"),
+        (with(of(&[0, 5], identity), &[0, 1], &[0, 0]), "refuse 11 2 1 0"),
+        (with(of(&[0, 5], identity), &[0, 0], &[0, 3]), "refuse 12 2 1 0"),
+        (of(&[0, 5], &[&[ONE, NO], &[NO, X]]), "refuse 13 0 0 0"),
+        (of(&[-1000, 1000], &[&[X, NO], &[NO, ONE]]), "refuse 13 0 0 0"),
     ]
 }

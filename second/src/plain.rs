@@ -194,36 +194,59 @@ fn vector_of(coefficients: &[u64], m: usize, largest: usize) -> Vec<Poly> {
         .collect()
 }
 
+/// Column j times X^(s_j - the lowest shift). That is never a negative power, so
+/// the degrees of the rows, and what stands at them, can be read off as if
+/// there were no shift; a zero entry stays zero and has no degree.
+fn weighted(basis: &Matrix, s: &[i64], p: u64) -> Matrix {
+    let lowest = *s.iter().min().unwrap();
+    basis
+        .iter()
+        .map(|row| row.iter().zip(s).map(|(e, s)| poly::scaled(e, 1, (s - lowest) as usize, p)).collect())
+        .collect()
+}
+
+/// The highest power in each row, where each row has one.
+fn highest_powers(rows: &Matrix) -> Option<Vec<usize>> {
+    rows.iter().map(|row| row.iter().filter_map(|e| e.len().checked_sub(1)).max()).collect()
+}
+
+/// Reduced for the shift, by the weighted basis: the coefficients at each row's
+/// highest power are independent. Compared with the leading matrix of the
+/// conditions, with trying all constants, and with Lemma 1 of source document
+/// 004: det P is not 0 and its degree is the sum of the row degrees less that of
+/// the shifts. The weights add as much to the one as to the other.
+fn reduced_by_weights(problem: &Problem, basis: &Matrix, det: &Poly) -> Result<bool, String> {
+    let p = problem.p;
+    let rows = weighted(basis, &problem.s, p);
+    let leading = verdict::leading(basis, &problem.s);
+    let Some(powers) = highest_powers(&rows) else {
+        return if leading.is_none() && det.is_empty() { Ok(false) } else { Err("a row of zeros has a degree".into()) };
+    };
+    let top: Vec<Vec<u64>> =
+        rows.iter().zip(&powers).map(|(row, k)| row.iter().map(|e| poly::coefficient(e, *k)).collect()).collect();
+    if leading.as_ref() != Some(&top) {
+        return Err("the two leading matrices differ".into());
+    }
+    let reduced = poly::determinant_permutations(&top, p) != 0;
+    if small_power(p, problem.m, 700).is_some() && reduced == dependent_by_trying(&top, p) {
+        return Err("reducedness by trying constants differs".into());
+    }
+    let lowest = *problem.s.iter().min().unwrap();
+    let weights: usize = problem.s.iter().map(|s| (s - lowest) as usize).sum();
+    if reduced != (!det.is_empty() && det.len() - 1 + weights == powers.iter().sum::<usize>()) {
+        return Err("reducedness by the lemma differs".into());
+    }
+    Ok(reduced)
+}
+
 /// Is it a reduced basis with its evidence? Also the codimension of A.
 pub fn meaning(problem: &Problem, basis: &Matrix, evidence: &[Vec<u64>]) -> Result<(bool, usize), String> {
     let p = problem.p;
     let m = problem.m;
     let largest = *problem.d.iter().max().unwrap();
 
-    let leading = verdict::leading(basis, &problem.s);
-    let reduced = poly::determinant_permutations(&leading, p) != 0;
-    if small_power(p, m, 700).is_some() && reduced == dependent_by_trying(&leading, p) {
-        return Err("reducedness by trying constants differs".into());
-    }
-
-    // Lemma 1 of source document 004 takes a zero entry as of no degree. The
-    // rules' reading is the stricter one: it agrees with the lemma's exactly
-    // where no zero entry lifts its row's degree.
     let det = poly::determinant_subsets(basis, p);
-    let lemma: Option<Vec<i64>> = basis
-        .iter()
-        .map(|row| {
-            row.iter().zip(&problem.s).filter(|(e, _)| !e.is_empty()).map(|(e, s)| e.len() as i64 - 1 + s).max()
-        })
-        .collect();
-    let by_lemma = match &lemma {
-        None => false,
-        Some(u) => det.len() as i64 - 1 == u.iter().sum::<i64>() - problem.s.iter().sum::<i64>() && !det.is_empty(),
-    };
-    let lifted = lemma != Some(verdict::row_degrees(basis, &problem.s));
-    if reduced != (by_lemma && !lifted) {
-        return Err("reducedness by the lemma differs".into());
-    }
+    let reduced = reduced_by_weights(problem, basis, &det)?;
 
     let products: Vec<Vec<Poly>> = basis.iter().map(|row| times_f(problem, row)).collect();
     let inside = products.iter().all(|vf| vanishes(problem, vf));

@@ -4,9 +4,9 @@ use crate::claim::{Claim, Kind};
 use crate::field;
 use crate::make;
 use crate::plain;
-use crate::poly;
+use crate::poly::{self, Matrix, Poly};
 use crate::random::Random;
-use crate::read::LENGTH;
+use crate::read::{LENGTH, ROWS};
 use crate::verdict;
 
 #[derive(Default)]
@@ -67,6 +67,9 @@ fn patch(file: &[u8], at: usize, with: &[u8]) -> Vec<u8> {
 fn worked(t: &mut Tally) {
     for (k, (claim, due)) in make::worked().into_iter().enumerate() {
         t.line(&format!("worked case {k}"), &claim.problem().bytes, &claim.answer(true).bytes, due);
+    }
+    for (k, (claim, due)) in make::zero_entries().into_iter().enumerate() {
+        t.line(&format!("zero entries, case {k}"), &claim.problem().bytes, &claim.answer(true).bytes, due);
     }
     let problem = bytes(
         "50 52 07 00 00 00 02 01 4F 52 02 53 48 00 00 00 00 46 43 00 01 00 00 00 00 00 00 00 01 00 00 00 01 00 00 00",
@@ -237,9 +240,102 @@ fn files(t: &mut Tally, random: &mut Random) {
     }
 }
 
-/// Does a zero entry lift the degree of its row?
-fn lifted(claim: &Claim) -> bool {
-    claim.degrees() != verdict::row_degrees(&claim.basis, &claim.s)
+/// The rule that document 01 had at first, where a zero entry counts as degree
+/// 0. It stands here alone, to be compared with: what was reduced stays so.
+mod before {
+    use crate::poly::{self, Matrix};
+
+    pub fn row_degrees(basis: &Matrix, s: &[i64]) -> Vec<i64> {
+        basis.iter().map(|row| row.iter().zip(s).map(|(e, s)| (e.len() as i64 - 1).max(0) + s).max().unwrap()).collect()
+    }
+
+    pub fn reduced(basis: &Matrix, s: &[i64], p: u64) -> bool {
+        let u = row_degrees(basis, s);
+        let leading: Vec<Vec<u64>> = basis
+            .iter()
+            .zip(u)
+            .map(|(row, u)| row.iter().zip(s).map(|(e, s)| poly::coefficient(e, (u - s) as usize)).collect())
+            .collect();
+        poly::determinant_permutations(&leading, p) != 0
+    }
+}
+
+/// Row degrees and leading matrices worked by hand.
+fn degrees(t: &mut Tally) {
+    let no: Poly = vec![];
+    let one: Poly = vec![1];
+    let cubic: Poly = vec![0, 0, 0, 2];
+    for (row, s, due) in [
+        (vec![&one, &no], vec![0, 5], Some(0)),
+        (vec![&no, &one], vec![0, 5], Some(5)),
+        (vec![&one, &no], vec![-1000, 1000], Some(-1000)),
+        (vec![&no, &one], vec![1000, -1000], Some(-1000)),
+        (vec![&cubic, &no], vec![-1000, 1000], Some(-997)),
+        (vec![&cubic, &one], vec![0, 3], Some(3)),
+        (vec![&cubic, &one], vec![0, 5], Some(5)),
+        (vec![&no, &cubic, &no], vec![-3, -2, -1], Some(1)),
+        (vec![&no, &no], vec![0, 5], None),
+        (vec![&no], vec![-1000], None),
+    ] {
+        let row: Vec<Poly> = row.into_iter().cloned().collect();
+        t.is(&format!("degree of {row:?} for {s:?}"), verdict::row_degree(&row, &s) == due);
+    }
+    let square = |entries: [&Poly; 4]| vec![vec![entries[0].clone(), entries[1].clone()], vec![entries[2].clone(), entries[3].clone()]];
+    for (basis, s, due) in [
+        // the power asked for at the first row's zero entry is -5
+        (square([&one, &no, &no, &one]), [0, 5], Some(vec![vec![1, 0], vec![0, 1]])),
+        (square([&one, &no, &cubic, &one]), [0, 3], Some(vec![vec![1, 0], vec![2, 1]])),
+        (square([&one, &no, &cubic, &one]), [0, 2], Some(vec![vec![1, 0], vec![2, 0]])),
+        (square([&cubic, &no, &no, &one]), [-1000, 1000], Some(vec![vec![2, 0], vec![0, 1]])),
+        (square([&one, &no, &no, &no]), [0, 5], None),
+        (square([&no, &no, &no, &one]), [0, 5], None),
+    ] {
+        t.is(&format!("leading matrix of {basis:?} for {s:?}"), verdict::leading(&basis, &s) == due);
+    }
+}
+
+/// A matrix of chance with zero entries, often with several entries at the
+/// degree of their row.
+fn some_matrix(m: usize, s: &[i64], p: u64, random: &mut Random) -> Matrix {
+    let zeros = random.below(90);
+    let aligned = random.chance(50);
+    (0..m)
+        .map(|_| {
+            let level = random.pick(s) + random.between(0, 3);
+            s.iter()
+                .map(|s| {
+                    let room = (level - s).clamp(-1, LENGTH as i64 - 1) + 1;
+                    let length = if aligned { room as usize } else { random.below(4) };
+                    let mut e: Poly = (0..length).map(|_| random.next() % p).collect();
+                    poly::trim(&mut e);
+                    if random.chance(zeros) { Vec::new() } else { e }
+                })
+                .collect()
+        })
+        .collect()
+}
+
+/// What was reduced by the rule before is reduced with the same row degrees,
+/// and there are bases that are reduced only now.
+fn against_before(t: &mut Tally, random: &mut Random) {
+    let (mut still, mut now, mut never, mut wrong) = (0, 0, 0, 0);
+    for round in 0..40_000 {
+        let p = random.pick(&[2, 2, 3, 5, 7, 251, 2_147_483_647]);
+        let m = 1 + round % ROWS;
+        let s = make::some_shifts(m, random);
+        let basis = some_matrix(m, &s, p, random);
+        let reduced = verdict::leading(&basis, &s).is_some_and(|l| poly::determinant_permutations(&l, p) != 0);
+        let same = verdict::row_degrees(&basis, &s) == Some(before::row_degrees(&basis, &s));
+        match (before::reduced(&basis, &s, p), reduced, same) {
+            (true, true, true) => still += 1,
+            (false, true, false) => now += 1,
+            (false, false, _) => never += 1,
+            _ => wrong += 1,
+        }
+    }
+    println!("reduced before and now: {still}, only now: {now}, neither: {never}");
+    t.is("what was reduced stays so with its degrees; what is reduced only now has others", wrong == 0);
+    t.is("enough of each", still > 1000 && now > 1000 && never > 1000);
 }
 
 fn judged(claim: &Claim) -> Result<u32, String> {
@@ -249,37 +345,64 @@ fn judged(claim: &Claim) -> Result<u32, String> {
     Ok(code)
 }
 
-/// Honest bases pass (9 where a zero entry lifts its row's degree), of any
-/// degree; times X they get 13, times X - 1 they get 10.
-fn honest(t: &mut Tally, random: &mut Random) {
-    let (mut passes, mut large) = (0, 0);
+/// True bases pass under every shift, of any degree; times X they get 13, times
+/// X - 1 they get 10, lifted they get 9, with other evidence they get 12.
+fn true_bases(t: &mut Tally, what: &str, make: fn(&mut Random, bool) -> Claim, random: &mut Random) {
+    let (mut large, mut apart, mut refused_before, mut lifted) = (0, 0, 0, 0);
     for round in 0..1500 {
-        let claim = make::honest(random, round % 2 == 0);
-        if claim.basis.iter().flatten().any(|e| e.len() > LENGTH) {
-            large += 1;
-        }
-        let due = if lifted(&claim) { 9 } else { 0 };
+        let claim = make(random, round % 2 == 0);
+        let (p, s) = (claim.p, &claim.s);
+        large += claim.basis.iter().flatten().any(|e| e.len() > LENGTH) as u32;
+        apart += (s.iter().max().unwrap() - s.iter().min().unwrap() > 16) as u32;
+        refused_before += !before::reduced(&claim.basis, s, p) as u32;
         let code = judged(&claim);
-        t.is(&format!("honest {round}: {code:?}"), code == Ok(due));
-        if due != 0 {
-            continue;
-        }
-        passes += 1;
-        for (by, due) in [(vec![0, 1], 13), (vec![claim.p - 1, 1], 10)] {
+        t.is(&format!("{what} {round}: {code:?}"), code == Ok(0));
+        for (by, due) in [(vec![0, 1], 13), (vec![p - 1, 1], 10)] {
             let mut spoilt = claim.clone();
             spoilt.times_row(random.below(claim.m), &by);
             spoilt.attest();
             let code = judged(&spoilt);
-            t.is(&format!("spoilt {round}: {code:?}"), code == Ok(due));
+            t.is(&format!("{what} {round}, spoilt: {code:?}"), code == Ok(due));
+        }
+        let mut spoilt = claim.clone();
+        if make::lift(&mut spoilt, random) {
+            lifted += 1;
+            let code = judged(&spoilt);
+            t.is(&format!("{what} {round}, lifted: {code:?}"), code == Ok(9));
         }
         let mut spoilt = claim.clone();
         let (i, j) = (random.below(claim.m), random.below(claim.n));
-        spoilt.evidence[i][j] = (spoilt.evidence[i][j] + 1) % claim.p;
+        spoilt.evidence[i][j] = (spoilt.evidence[i][j] + 1) % p;
         let problem = spoilt.as_problem();
         let got = verdict::four(&problem, &spoilt.basis, &spoilt.evidence);
         t.is("evidence spoilt", got == Ok((12, 2, i as u32, j as u64)));
     }
-    t.is("enough of them pass, some are too large", passes > 500 && large > 5);
+    println!("{what}: {apart} of 1500 with shifts far apart, {refused_before} refused before, {lifted} lifted, {large} too large");
+    t.is("enough of each", apart > 400 && refused_before > 400 && lifted > 300);
+}
+
+/// Every bundle has enough claims of each code under shifts that are far apart,
+/// and with zero entries that are asked for a negative power; and some of each
+/// among the kinds that it begins with.
+fn bundles(t: &mut Tally) {
+    const CODES: [usize; 6] = [0, 9, 10, 11, 12, 13];
+    for seed in 1..=3 {
+        let mut maker = make::Maker::new(seed);
+        let (mut apart, mut negative, mut first, mut zero_rows) = ([0; 15], [0; 15], [0; 15], 0);
+        for number in 0..8000 {
+            let case = maker.next();
+            let said = verdict::say(&case.problem, &case.answer, case.lent).unwrap();
+            let (code, Some(shape)) = (said.judged.code as usize, said.shape) else {
+                continue;
+            };
+            apart[code] += shape.apart as u32;
+            negative[code] += shape.negative as u32;
+            first[code] += (number < maker.fixed && shape.negative) as u32;
+            zero_rows += shape.zero_row as u32;
+        }
+        let enough = CODES.iter().all(|k| apart[*k] >= 30 && negative[*k] >= 30 && first[*k] >= 1) && zero_rows >= 100;
+        t.is(&format!("kinds of claims of seed {seed}: {apart:?} {negative:?} {first:?} {zero_rows}"), enough);
+    }
 }
 
 /// Every claim of a few tiny sizes: the four conditions against the plain meaning.
@@ -289,10 +412,10 @@ fn tiny(t: &mut Tally) {
         (2, 1, 1, vec![3], 4, vec![vec![-1]]),
         (3, 1, 1, vec![2], 3, vec![vec![5]]),
         (2, 1, 2, vec![1, 2], 3, vec![vec![0]]),
-        (2, 2, 1, vec![1], 2, vec![vec![0, 0], vec![0, 1], vec![-1, 0], vec![0, 2]]),
-        (2, 2, 1, vec![2], 2, vec![vec![0, 0], vec![1, 0]]),
-        (2, 2, 2, vec![1, 1], 2, vec![vec![7, 7]]),
-        (3, 2, 1, vec![1], 1, vec![vec![0, 0], vec![0, 1]]),
+        (2, 2, 1, vec![1], 2, vec![vec![0, 0], vec![0, 1], vec![-1, 0], vec![0, 2], vec![0, 5], vec![5, 0], vec![-1000, 1000]]),
+        (2, 2, 1, vec![2], 2, vec![vec![0, 0], vec![1, 0], vec![1000, -1000]]),
+        (2, 2, 2, vec![1, 1], 2, vec![vec![7, 7], vec![-9, -3]]),
+        (3, 2, 1, vec![1], 1, vec![vec![0, 0], vec![0, 1], vec![-17, 0]]),
     ];
     for (p, m, n, d, longest, shifts) in sizes {
         let entries = m * m * longest;
@@ -352,8 +475,12 @@ pub fn run() -> bool {
     worked(&mut t);
     primes(&mut t);
     files(&mut t, &mut random);
-    honest(&mut t, &mut random);
+    degrees(&mut t);
+    against_before(&mut t, &mut random);
+    true_bases(&mut t, "honest", make::honest, &mut random);
+    true_bases(&mut t, "sparse", make::sparse, &mut random);
     tiny(&mut t);
+    bundles(&mut t);
     println!("{} passed, {} failed", t.passed, t.failed);
     t.failed == 0
 }

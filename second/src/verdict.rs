@@ -3,7 +3,7 @@
 
 use crate::field;
 use crate::plain;
-use crate::poly::{self, Matrix};
+use crate::poly::{self, Matrix, Poly};
 use crate::read::{self, Problem};
 
 #[derive(Debug, Clone, PartialEq)]
@@ -16,33 +16,32 @@ pub struct Verdict {
     pub part: (usize, usize, usize),
 }
 
-/// Row degrees for the shift; an entry of length 0 counts as degree 0.
-pub fn row_degrees(basis: &Matrix, s: &[i64]) -> Vec<i64> {
-    basis
-        .iter()
-        .map(|row| {
-            row.iter()
-                .zip(s)
-                .map(|(e, s)| s + (e.len() as i64 - 1).max(0))
-                .max()
-                .unwrap()
-        })
-        .collect()
+/// The degree of a row for the shift: the largest, over its entries other than
+/// zero, of degree plus that column's shift. A zero entry has no degree and
+/// takes no part; so a row of zeros has none.
+pub fn row_degree(row: &[Poly], s: &[i64]) -> Option<i64> {
+    row.iter()
+        .zip(s)
+        .filter(|(e, _)| !e.is_empty())
+        .map(|(e, s)| e.len() as i64 - 1 + s)
+        .max()
 }
 
-/// The leading matrix, entry by entry.
-pub fn leading(basis: &Matrix, s: &[i64]) -> Vec<Vec<u64>> {
-    let u = row_degrees(basis, s);
-    basis
-        .iter()
-        .zip(&u)
-        .map(|(row, u)| {
-            row.iter()
-                .zip(s)
-                .map(|(e, s)| if u - s < 0 { 0 } else { poly::coefficient(e, (u - s) as usize) })
-                .collect()
-        })
-        .collect()
+/// The degrees of the rows, where each row has one.
+pub fn row_degrees(basis: &Matrix, s: &[i64]) -> Option<Vec<i64>> {
+    basis.iter().map(|row| row_degree(row, s)).collect()
+}
+
+/// The coefficient at a power that may be negative, where there is none.
+fn at_power(e: &Poly, power: i64) -> u64 {
+    usize::try_from(power).map_or(0, |k| poly::coefficient(e, k))
+}
+
+/// The leading matrix, entry by entry, where each row has a degree.
+pub fn leading(basis: &Matrix, s: &[i64]) -> Option<Vec<Vec<u64>>> {
+    let leading_row = |row: &Vec<Poly>, u: &i64| row.iter().zip(s).map(|(e, s)| at_power(e, u - s)).collect();
+    let u = row_degrees(basis, s)?;
+    Some(basis.iter().zip(&u).map(|(row, u)| leading_row(row, u)).collect())
 }
 
 /// Coefficients 0 to d_j of each entry of PF. P is taken as a polynomial whose
@@ -118,15 +117,18 @@ pub fn rank_from_behind(rows: &[Vec<u64>], p: u64) -> usize {
 
 /// Code, file, record and at by the conditions 9 to 13, or 0 and the degree sum.
 ///
-/// Reduced: det P is the signed sum, over the ways to match rows i with
-/// columns j, of products of entries, and the entry (i, j) has no power above
-/// u_i - s_j, where u_i is the row degree (a zero entry has none at all). So
-/// the coefficient of det P at the power D = sum u - sum s is the same signed
-/// sum of the leading matrix' entries, its determinant, and det P has no power
-/// above D. u_i - s_j is never negative, for every entry counts as of degree 0
-/// at least. Hence P is reduced exactly if det P has a coefficient other than
-/// 0 at D, and the leading matrix need not be built. It is built all the same
-/// and the two numbers are compared.
+/// Reduced: a row of zeros has no degree, so there is no degree sum and the
+/// code is 9. Otherwise let u_i be the row degrees and D = sum u - sum s. det P
+/// is the signed sum, over the ways to match rows i with columns j, of products
+/// of entries. An entry (i, j) other than zero has no power above u_i - s_j,
+/// which is then not negative, and the powers u_i - s_j of a match add up to
+/// D. So the coefficient of det P at D is the same signed sum of the leading
+/// matrix' entries, its determinant, and det P has no power above D. With a
+/// zero entry a match adds nothing to either. If D is negative, every match has
+/// a negative u_i - s_j and hence a zero entry: det P is 0, and so is the
+/// leading determinant. Hence P is reduced exactly if det P has a coefficient
+/// other than 0 at D, and the leading matrix need not be built. It is built all
+/// the same and the two numbers are compared.
 ///
 /// Determinant: fraction-free elimination; compared with the determinant over
 /// the column subsets.
@@ -134,19 +136,22 @@ pub fn rank_from_behind(rows: &[Vec<u64>], p: u64) -> usize {
 /// Rank: by minors; compared with an elimination from behind.
 pub fn four(problem: &Problem, basis: &Matrix, evidence: &[Vec<u64>]) -> Result<(u32, u32, u32, u64), String> {
     let p = problem.p;
-    let sum = row_degrees(basis, &problem.s).iter().sum::<i64>() - problem.s.iter().sum::<i64>();
-    if sum < 0 {
-        return Err("negative degree sum".into());
-    }
     let det = poly::determinant_bareiss(basis, p);
     if det != poly::determinant_subsets(basis, p) {
         return Err("the two determinants differ".into());
     }
-    if det.len() as i64 > sum + 1 {
+    let Some(degrees) = row_degrees(basis, &problem.s) else {
+        if !det.is_empty() {
+            return Err("a row of zeros and a determinant other than 0".into());
+        }
+        return Ok((9, 0, 0, 0));
+    };
+    let sum = degrees.iter().sum::<i64>() - problem.s.iter().sum::<i64>();
+    if !det.is_empty() && det.len() as i64 - 1 > sum {
         return Err("the determinant has a power above the degree sum".into());
     }
-    let top = poly::coefficient(&det, sum as usize);
-    if top != poly::determinant_permutations(&leading(basis, &problem.s), p) {
+    let top = at_power(&det, sum);
+    if Some(top) != leading(basis, &problem.s).map(|l| poly::determinant_permutations(&l, p)) {
         return Err("top coefficient and leading determinant differ".into());
     }
     if top == 0 {
@@ -256,12 +261,38 @@ fn hex(bytes: &[u8], line: &mut String) {
     }
 }
 
+/// What the shifts and the zero entries of a claim are like.
+pub struct Shape {
+    /// two shifts differ by more than the degree of any entry
+    pub apart: bool,
+    /// some row is zero
+    pub zero_row: bool,
+    /// some zero entry is asked for a negative power: the shift of its column
+    /// is above the degree of its row
+    pub negative: bool,
+}
+
+/// The shape of a claim whose files can be read.
+fn shape(problem_file: &[u8], answer_file: &[u8]) -> Option<Shape> {
+    let problem = read::problem(problem_file).ok()?;
+    let basis = read::answer(answer_file, &problem, true).ok()?.basis;
+    let s = &problem.s;
+    let above = |row: &Vec<Poly>| row_degree(row, s).is_some_and(|u| s.iter().any(|s| *s > u));
+    Some(Shape {
+        apart: s.iter().max().unwrap() - s.iter().min().unwrap() >= read::LENGTH as i64,
+        zero_row: row_degrees(&basis, s).is_none(),
+        negative: basis.iter().any(above),
+    })
+}
+
 pub struct Said {
     pub lines: [String; 3],
     pub judged: Verdict,
     pub made: u32,
     /// m and n, where the problem can be read
     pub size: (usize, usize),
+    /// where both files can be read
+    pub shape: Option<Shape>,
 }
 
 pub fn judge_line(v: &Verdict) -> String {
@@ -291,5 +322,6 @@ pub fn say(problem: &[u8], answer: &[u8], lent: usize) -> Result<Said, String> {
         hex(&buffer, &mut third);
     }
     let size = if (v.code == 0 || v.code > 8) || v.file == 1 { (problem[6] as usize, problem[7] as usize) } else { (0, 0) };
-    Ok(Said { lines: [first, second, third], judged: v, made: e.code, size })
+    let shape = shape(problem, answer);
+    Ok(Said { lines: [first, second, third], judged: v, made: e.code, size, shape })
 }

@@ -1,6 +1,7 @@
 /*
  * The archive as a C host sees it: document 01's worked cases, its example on disk with every variant, and one variant for each code,
- * the same that docs/OPERATOR.md shows; and how deep a call goes into the stack. Each check prints a line only if it fails; the last line is the tally.
+ * the same that docs/OPERATOR.md shows; the identity for shifts that are far apart; and how deep a call goes into the stack. Each check
+ * prints a line only if it fails; the last line is the tally.
  */
 #include "board.h"
 #include "files.h"
@@ -149,6 +150,22 @@ static void check_edge(uint32_t p, int order, int shift, const char *name)
     check_verdict(judge(f.problem, f.problem_len, f.answer, f.answer_len), BOARD_PASS, 0, 0, 0, name);
 }
 
+/*
+ * A lab's claim: the identity of size two, F and C zero. It is the basis whatever the shifts are, because a zero entry takes no part in the
+ * degree of its row. A pass with a degree sum of 0 is the number 0. With a row of zeros it is refused.
+ */
+static void check_identity(int first_shift, int second_shift, const char *name)
+{
+    struct claim c = {.p = 7, .m = 2, .n = 1, .order = {1}, .shift = {first_shift, second_shift}, .length = {{1, 0}, {0, 1}}};
+    struct files f;
+    c.entry[0][0][0] = c.entry[1][1][0] = 1;
+    write_files(&c, &f);
+    check(judge(f.problem, f.problem_len, f.answer, f.answer_len) == 0, name);
+    c.length[1][1] = 0;
+    write_files(&c, &f);
+    check_verdict(judge(f.problem, f.problem_len, f.answer, f.answer_len), BOARD_NOT_REDUCED, 0, 0, 0, name);
+}
+
 static void check_stack(void)
 {
     struct peak peak = peak_stack();
@@ -166,6 +183,9 @@ int main(void)
     check_edge(5, 16, 0, "order 16");
     check_edge(5, 1, -1000, "shift -1,000");
     check_edge(5, 1, 1000, "shift 1,000");
+    check_identity(0, 5, "identity, shifts 0, 5");
+    check_identity(5, 0, "identity, shifts 5, 0");
+    check_identity(-1000, 1000, "identity, shifts -1,000, 1,000");
     check_stack();
     printf("%d passed, %d failed\n", passed, failed);
     return failed == 0 ? EXIT_SUCCESS : EXIT_FAILURE;

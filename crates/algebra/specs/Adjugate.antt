@@ -1,5 +1,6 @@
 -- The adjugate matrix, and what a determinant says of a system of linear equations.
 --   adjugate n A             the matrix of signed minors, transposed
+--   kernel-times-det, kernel-zero, det-zero-row      rows that A takes to 0; a row of zeros
 use mathlib.Core.Path.{_≡_, refl, sym, ap, ap₂, _∙_}
 use mathlib.Core.Logic.{_≢_}
 use Prim.Native.Nat.{ℕ, zero, suc, _+_, _<_}
@@ -9,7 +10,7 @@ use Rattle.algebra.specs.Ring as Ring
 use Rattle.algebra.specs.Ring.{CommRing, RingRelation, Cancels, sign, sign-related}
 use Rattle.algebra.specs.Sum.{skip, sum, sum-cong}
 use Rattle.algebra.specs.Matrix.{Row, Matrix, transpose, unit, unit-diagonal, unit-off, unit-transpose, vmul, mmul, vmul-assoc, vmul-cong}
-use Rattle.algebra.specs.Matrix.{vmul-unit, vmul-zero}
+use Rattle.algebra.specs.Matrix.{vmul-unit, unit-vmul, vmul-zero}
 use Rattle.algebra.specs.Det.{minor, det, det-transpose, det-related}
 use Rattle.algebra.specs.Rows.{expand-row, det-row, det-twice}
 
@@ -81,6 +82,13 @@ module _ (R : CommRing) where
   -- … so over a ring without zero divisors a row that a nonsingular matrix takes to 0 is 0.
   pub kernel-zero : Cancels R → (n : ℕ) (A : Matrix R) → det R n A ≢ 𝟘 → (u : Row R) → ((j : ℕ) → j < n → vmul R n u A j ≡ 𝟘) → (i : ℕ) → i < n → u i ≡ 𝟘
   kernel-zero cancels n A nz u h i b = cancels (det R n A) (u i) nz (kernel-times-det n A u h i b)
+
+  -- A row of zeros makes the determinant 0.
+  pub det-zero-row : (n : ℕ) (A : Matrix R) (i : ℕ) → i < n → ((j : ℕ) → j < n → A i j ≡ 𝟘) → det R n A ≡ 𝟘
+  det-zero-row n A i b zeros =
+      sym (mul-one (det R n A))
+      ∙ ap (λ x. det R n A ⊗ x) (sym (unit-diagonal R i))
+      ∙ kernel-times-det n A (unit R i) (λ j h. unit-vmul R n i A b j ∙ zeros j h) i b
 
 module _ (R S : CommRing) (Rel : R .C → S .C → Type 0) (keeps : RingRelation R S Rel) where
   -- The adjugates of related matrices are related.

@@ -53,17 +53,17 @@ module _ (R : CommRing) where
   coefficient (pos d) f = f d
   coefficient (negsuc d) f = 𝟘
 
-  -- The series 0 has degree at most e, for every e …
-  pub at-most-zero : (e : ℤ) → AtMost e 𝟘ₛ
+  -- A series of zeros has degree at most e, for every e …
+  pub at-most-zeros : (e : ℤ) (f : ℕ → C) → ((k : ℕ) → f k ≡ 𝟘) → AtMost e f
   unfolding AtMost
-  at-most-zero (pos d) = λ k b. refl
-  at-most-zero (negsuc d) = λ k. refl
+  at-most-zeros (pos d) f h = λ k b. h k
+  at-most-zeros (negsuc d) f h = h
 
-  -- … and its coefficients are 0.
-  pub coefficient-zero : (e : ℤ) → coefficient e 𝟘ₛ ≡ 𝟘
+  -- … and its coefficient at e is 0.
+  pub coefficient-zeros : (e : ℤ) (f : ℕ → C) → ((k : ℕ) → f k ≡ 𝟘) → coefficient e f ≡ 𝟘
   unfolding coefficient
-  coefficient-zero (pos d) = refl
-  coefficient-zero (negsuc d) = refl
+  coefficient-zeros (pos d) f h = h d
+  coefficient-zeros (negsuc d) f h = refl
 
   -- A constant has degree at most 0 …
   pub at-most-constant : (c : C) → AtMost (pos zero) (constant R c)
@@ -102,7 +102,7 @@ module _ (R : CommRing) where
   -- A finite sum has degree at most e where the terms have …
   pub at-most-sum : (e : ℤ) (n : ℕ) (f : ℕ → ℕ → C) → ((i : ℕ) → i < n → AtMost e (f i)) → AtMost e (sum (Series R) n f)
   unfolding sum
-  at-most-sum e zero f h = at-most-zero e
+  at-most-sum e zero f h = at-most-zeros e 𝟘ₛ (λ k. refl)
   at-most-sum e (suc n) f h =
       at-most-add e (f zero) (sum (Series R) n (λ i. f (suc i))) (h zero (Nat.zero-lt-suc n))
       (at-most-sum e n (λ i. f (suc i)) (λ i b. h (suc i) (suc-le-suc b)))
@@ -110,36 +110,32 @@ module _ (R : CommRing) where
   -- … and its coefficient is the sum of theirs.
   pub coefficient-sum : (e : ℤ) (n : ℕ) (f : ℕ → ℕ → C) → coefficient e (sum (Series R) n f) ≡ sum R n (λ i. coefficient e (f i))
   unfolding sum
-  coefficient-sum e zero f = coefficient-zero e
+  coefficient-sum e zero f = coefficient-zeros e 𝟘ₛ (λ k. refl)
   coefficient-sum e (suc n) f =
       coefficient-add e (f zero) (sum (Series R) n (λ i. f (suc i))) ∙ ap (λ x. coefficient e (f zero) ⊕ x) (coefficient-sum e n (λ i. f (suc i)))
 
-  zeros-mul : (f g : ℕ → C) → ((k : ℕ) → f k ≡ 𝟘) → f ⊠ₛ g ≡ 𝟘ₛ
-  zeros-mul f g h = ap (λ x. x ⊠ₛ g) (series-ext R h) ∙ Ring.zero-mul (Series R) g
+  zeros-mul : (f g : ℕ → C) → ((k : ℕ) → f k ≡ 𝟘) → (k : ℕ) → (f ⊠ₛ g) k ≡ 𝟘
+  zeros-mul f g h k = ap (λ x. (x ⊠ₛ g) k) (series-ext R h) ∙ ap (λ s. s k) (Ring.zero-mul (Series R) g)
 
-  mul-zeros : (f g : ℕ → C) → ((k : ℕ) → g k ≡ 𝟘) → f ⊠ₛ g ≡ 𝟘ₛ
-  mul-zeros f g h = ap (λ x. f ⊠ₛ x) (series-ext R h) ∙ Ring.mul-zero (Series R) f
+  mul-zeros : (f g : ℕ → C) → ((k : ℕ) → g k ≡ 𝟘) → (k : ℕ) → (f ⊠ₛ g) k ≡ 𝟘
+  mul-zeros f g h k = ap (λ x. (f ⊠ₛ x) k) (series-ext R h) ∙ ap (λ s. s k) (Ring.mul-zero (Series R) f)
 
   -- The degrees of factors add up …
   pub at-most-mul : (e e′ : ℤ) (f g : ℕ → C) → AtMost e f → AtMost e′ g → AtMost (e +ℤ e′) (f ⊠ₛ g)
   unfolding AtMost
   at-most-mul (pos d) (pos d′) f g hf hg = below-mul-suc R f g hf hg
-  at-most-mul (pos d) (negsuc d′) f g hf hg = subst (AtMost (pos d +ℤ negsuc d′)) (sym (mul-zeros f g hg)) (at-most-zero (pos d +ℤ negsuc d′))
-  at-most-mul (negsuc d) (pos d′) f g hf hg = subst (AtMost (negsuc d +ℤ pos d′)) (sym (zeros-mul f g hf)) (at-most-zero (negsuc d +ℤ pos d′))
-  at-most-mul (negsuc d) (negsuc d′) f g hf hg = λ k. ap (λ s. s k) (zeros-mul f g hf)
+  at-most-mul (pos d) (negsuc d′) f g hf hg = at-most-zeros (pos d +ℤ negsuc d′) (f ⊠ₛ g) (mul-zeros f g hg)
+  at-most-mul (negsuc d) (pos d′) f g hf hg = at-most-zeros (negsuc d +ℤ pos d′) (f ⊠ₛ g) (zeros-mul f g hf)
+  at-most-mul (negsuc d) (negsuc d′) f g hf hg = zeros-mul f g hf
 
   -- … and the coefficients there are multiplied.
   pub coefficient-mul : (e e′ : ℤ) (f g : ℕ → C) → AtMost e f → AtMost e′ g → coefficient (e +ℤ e′) (f ⊠ₛ g) ≡ coefficient e f ⊗ coefficient e′ g
   unfolding AtMost coefficient
   coefficient-mul (pos d) (pos d′) f g hf hg = mul-leading R f g hf hg
   coefficient-mul (pos d) (negsuc d′) f g hf hg =
-      ap (coefficient (pos d +ℤ negsuc d′)) (mul-zeros f g hg)
-      ∙ coefficient-zero (pos d +ℤ negsuc d′)
-      ∙ sym (Ring.mul-zero R (f d))
+      coefficient-zeros (pos d +ℤ negsuc d′) (f ⊠ₛ g) (mul-zeros f g hg) ∙ sym (Ring.mul-zero R (f d))
   coefficient-mul (negsuc d) (pos d′) f g hf hg =
-      ap (coefficient (negsuc d +ℤ pos d′)) (zeros-mul f g hf)
-      ∙ coefficient-zero (negsuc d +ℤ pos d′)
-      ∙ sym (Ring.zero-mul R (g d′))
+      coefficient-zeros (negsuc d +ℤ pos d′) (f ⊠ₛ g) (zeros-mul f g hf) ∙ sym (Ring.zero-mul R (g d′))
   coefficient-mul (negsuc d) (negsuc d′) f g hf hg = sym (Ring.zero-mul R 𝟘)
 
   -- A series has degree at most e exactly if it has degree at most e + 1 and the coefficient there is 0.

@@ -3,6 +3,7 @@
 --   RowAtMost m s D v        the row v has degree at most D for the shifts s: v j has degree at most D − s j
 --   row-coefficient s D v    the row of the coefficients at D − s j
 --   RowDegree m s D v        the row v has degree D for the shifts s
+--   row-degree, row-degree-unique        a row has a degree where it has a coefficient other than 0, and one at most
 --   vmul-degree              the degree of a row times a matrix, and the coefficients there
 --   row-at-most-iff, predictable-degree  w·P has degree at most D, or degree D, for s exactly if w has it for r
 use mathlib.Core.Path.{_≡_, refl, sym, ap, subst, _∙_}
@@ -73,6 +74,29 @@ module _ (R : CommRing) where
   -- A bound on the degree of a row can be enlarged.
   pub row-at-most-mono : (m : ℕ) (s : ℕ → ℤ) (D : ℤ) (k : ℕ) (v : Row (Series R)) → RowAtMost m s D v → RowAtMost m s (D +ℤ pos k) v
   row-at-most-mono m s D k v h j b = subst (λ x. AtMost R x (v j)) (sub-add D (s j) (pos k)) (at-most-mono R (D -ℤ s j) k (v j) (h j b))
+
+  -- Above the degree of a row there are zeros alone, …
+  pub row-coefficient-above : (m : ℕ) (s : ℕ → ℤ) (D : ℤ) (k : ℕ) (v : Row (Series R)) → RowAtMost m s D v
+      → (j : ℕ) → j < m → row-coefficient s (D +ℤ pos (suc k)) v j ≡ 𝟘
+  row-coefficient-above m s D k v h j b =
+      ap (λ x. row-coefficient s x v j) (+ℤ-sucℤ D (pos k)) ∙ row-at-most-suc-iff m s (D +ℤ pos k) v .0 (row-at-most-mono m s D k v h) .1 j b
+
+  -- … so that a row has one degree at most.
+  pub row-degree-unique : (m : ℕ) (s : ℕ → ℤ) (D D′ : ℤ) (v : Row (Series R)) → RowDegree m s D v → RowDegree m s D′ v → D ≡ D′
+  row-degree-unique m s D D′ v (h, (j, b, ne)) (h′, (j′, b′, ne′)) = by (D′ -ℤ D) refl
+    where
+      higher : D′ ≡ D +ℤ (D′ -ℤ D)
+      higher = ring Integers (D ∷ D′ ∷ []) v1 (v0 ⊞ (v1 ⊞ ⊟ v0)) refl
+
+      lower : D ≡ D′ -ℤ (D′ -ℤ D)
+      lower = ring Integers (D ∷ D′ ∷ []) v0 (v1 ⊞ ⊟ (v1 ⊞ ⊟ v0)) refl
+
+      by : (x : ℤ) → D′ -ℤ D ≡ x → D ≡ D′
+      by (pos zero) e = sym (higher ∙ ap (λ x. D +ℤ x) e ∙ +ℤ-idr D)
+      by (pos (suc k)) e =
+          absurd (ne′ (ap (λ x. row-coefficient s x v j′) (higher ∙ ap (λ x. D +ℤ x) e) ∙ row-coefficient-above m s D k v h j′ b′))
+      by (negsuc k) e =
+          absurd (ne (ap (λ x. row-coefficient s x v j) (lower ∙ ap (λ x. D′ -ℤ x) e) ∙ row-coefficient-above m s D′ k v h′ j b))
 
   -- A row of polynomials has a bound on its degree, as far above D as need be.
   pub row-bound : (m : ℕ) (s : ℕ → ℤ) (D : ℤ) (v : ℕ → Poly R) → (k : ℕ) × RowAtMost m s (D +ℤ pos k) (λ j. v j .series)

@@ -11,7 +11,7 @@ use borrow.Author.Tests.{ne-eqb}
 use lib.Dec.{eqb}
 use Rattle.rules.specs.Claim.{Claim}
 use Rattle.rules.specs.Conditions.{reduced, monomial-determinant, degree-sum, low-fault, order-fault, first-place, rank-below}
-use Rattle.rules.specs.Verdict.{Verdict, passed, not-reduced, not-monomial, below-order, at-order, low-rank, natural, judge-claim, by-product, by-rank}
+use Rattle.rules.specs.Verdict.{Verdict, not-reduced, not-monomial, below-order, at-order, low-rank, pass-with, judge-claim, by-product, by-rank}
 
 abbrev pub fault-if : Bool → Verdict → Option Verdict
 fault-if b v = cond b (some v) none
@@ -45,7 +45,7 @@ or-else none w = w
 or-else (some v) w = v
 
 unfoldable pub first-applying : ℕ → ℕ → Claim → Verdict
-first-applying zero code c = passed (natural (degree-sum (c .problem) (c .answer .P)))
+first-applying zero code c = pass-with (degree-sum (c .problem) (c .answer .P))
 first-applying (suc left) code c = or-else (applies code c) (first-applying left (code + 1) c)
 
 -- The rules' tests, one by one, in that form.

@@ -15,7 +15,7 @@ use Rattle.algebra.specs.Det.{det}
 use Rattle.algebra.specs.Dependence.{Dependent}
 use Rattle.algebra.specs.OrderBasis.{Monomial}
 use Rattle.rules.specs.Conditions.{degree-sum-of, first-place}
-use Rattle.rules.specs.Verdict.{Verdict, passed, not-reduced, not-monomial, below-order, at-order, low-rank, natural, judge-claim}
+use Rattle.rules.specs.Verdict.{Verdict, not-reduced, not-monomial, below-order, at-order, low-rank, pass-with, judge-claim}
 use Rattle.rules.specs.SearchLaws.{first-place-some}
 use Rattle.verdict.specs.Meant.{meant}
 use Rattle.layout.specs.Flat.{length-at, shift-at, cells}
@@ -122,9 +122,10 @@ module _ (p m n : ℕ) (x : Arrays) where
         t .so-far os ss F P C held ∙ ap (λ k. first-applying k code c) one ∙ applying-later c (13 - code) code (sym (g os ss F P C held)) ∙ ap (λ k. first-applying k (code + 1) c) next;
   }
 
-  pub all-tried : (code : ℕ) (sum : ℤ) (d : ℕ) → 13 < code → Tried code → sum ≡ degree-sum-of m (length-at (x .lengths)) (shift-at (x .shifts)) → d ≡ natural sum → Judged judge-claim p m n x (passed d)
+  pub all-tried : (code : ℕ) (sum : Option ℤ) → 13 < code → Tried code → sum ≡ degree-sum-of m (length-at (x .lengths)) (shift-at (x .shifts))
+      → Judged judge-claim p m n x (pass-with sum)
   unfolding first-applying
-  all-tried code sum d h t es ed os ss F P C held =
+  all-tried code sum h t es os ss F P C held =
       let c = claim p m n os ss F P C in
       let over : 14 - code ≡ 0 = omega arith in
-      ap passed (ed ∙ ap natural (es ∙ Steps.same-degree-sum x c held)) ∙ sym (t .so-far os ss F P C held ∙ ap (λ k. first-applying k code c) over)
+      ap pass-with (es ∙ Steps.same-degree-sum x c held) ∙ sym (t .so-far os ss F P C held ∙ ap (λ k. first-applying k code c) over)

@@ -1,7 +1,7 @@
 // The four conditions of document 01, on a claim that lies in flat arrays. A name means the same in all functions: orders, shifts, the
 // coefficients f of F, the lengths and the coefficients (entries) of P's entries, C, the prime, the rows and the columns.
 ghost use mathlib.Core.Path.{_≡_};
-ghost use Prim.Native.Nat.{_+_, _<_, _≤_};
+ghost use Prim.Native.Nat.{_+_, _≤_};
 ghost use Rattle.algebra.specs.Prime.{Prime};
 ghost use Rattle.algebra.specs.Residue.{K};
 ghost use Rattle.algebra.specs.Det.{det};
@@ -22,6 +22,9 @@ ghost use Rattle.product.specs.Faults.{flat-fault};
 ghost use Rattle.conditions.specs.Held.{Ready, Judged, arrays};
 ghost use Rattle.conditions.specs.Applies.{applies, fault-if, fault-at, product-verdict};
 ghost use Rattle.conditions.specs.Findings.{finding};
+use degrees::Degree;
+use degrees::degree_sum;
+use degrees::not_negative;
 use determinant::determinant_is_monomial;
 use elimination::dependent;
 use elimination::singular;
@@ -51,7 +54,7 @@ fn not_reduced<'a>(
 ) -> bool
     requires { ⌜ Prime p × Each p (now entries) ⌝ }
     requires { ⌜ Sized (now lengths) shifts ⌝ }
-    requires { ⌜ (0 < m) × (m ≤ most-rows) ⌝ }
+    requires { ⌜ m ≤ most-rows ⌝ }
     ensures { λ r. ⌜ Settles (det (K p) m (grid p (array-of m m (leading-number (now (entries .entry)) (now (lengths .entry)) shifts m))) ≡ K p .𝟘) r ⌝ }
 {
     singular(leading_matrix(entries, lengths, shifts, m), p, m)
@@ -165,6 +168,8 @@ pub fn conditions<'a>(
         }
         code += 1;
     }
-    let sum = degrees::degree_sum(lengths, shifts, m);
-    Verdict::Passed(degrees::not_negative(sum))
+    let Degree::Of(sum) = degree_sum(lengths, shifts, m) else {
+        return Verdict::NotReduced;
+    };
+    Verdict::Passed(not_negative(sum))
 }

@@ -3,6 +3,7 @@ use mathlib.Core.Path.{_≡_, ap}
 use native.Mathlib.Omega.{arith}
 use lib.IntN.{ℤ, natAbs}
 use mathlib.Core.List.{List}
+use mathlib.Core.Option.{some}
 use Prim.Native.Nat.{ℕ, _+_, _^_, _<_}
 use mir.Syntax.{w32}
 use mir.Val.{toZ, ofZ}
@@ -18,8 +19,7 @@ module _ (lengths : List ℕ) (shifts : List ℤ) (sized : Sized lengths shifts)
   shift-back j = back (small-fits (omega (arith, sized .shift-most j)))
 
   -- A row degree and a shift are small enough to be subtracted.
-  pub difference-small : (m i j : ℕ) (r : ℤ) → r ≡ row-degree-of m (length-at lengths i) (shift-at shifts)
+  pub difference-small : (m i j : ℕ) (r : ℤ) → row-degree-of m (length-at lengths i) (shift-at shifts) ≡ some r
       → natAbs r + natAbs (toZ w32 (ofZ w32 (shift-at shifts j))) < 2 ^ 31
   unfolding most-length most-shift
-  difference-small m i j r e =
-      omega (arith, ap natAbs e, row-degree-size lengths shifts sized m i, ap natAbs (shift-back j), sized .shift-most j)
+  difference-small m i j r e = omega (arith, row-degree-size lengths shifts sized m i r e, ap natAbs (shift-back j), sized .shift-most j)

@@ -1,22 +1,24 @@
 -- Condition 1 over the flat arrays: the degrees of the rows and their sum, which are the rules' for the lengths and the shifts that the
 -- arrays hold.
 --   Sized lengths shifts     the sizes of document 01
---   entry-term               what the degree of a row is the largest of
---   largest-from, sum-from   the largest and the sum from some place on, as a loop from the end finds them
-use mathlib.Core.Path.{_≡_, refl, sym, ap, ap₂, fun-ext, _∙_}
+--   entry-term, excess       what a row's degree is the largest of, and what the degree sum is the sum of
+--   largest-from, total-from the largest and the sum from some place on, as a loop from the end finds them
+use mathlib.Core.Path.{_≡_, refl, sym, ap, _∙_}
 use mathlib.Core.List.{List}
-use Prim.Native.Nat.{ℕ, suc, pred, _+_, _-_, _*_, _≤_, _<_}
-use native.Mathlib.Nat.{le-trans, pred-le, sub-self, sub-zero, add-zero, zero-add, add-suc, suc-add}
+use mathlib.Core.Option.{Option, none, some, Option·some-injective, Option·none-ne-some}
+use Prim.Native.Nat.{ℕ, zero, suc, _+_, _-_, _*_, _≤_, _<_}
+use native.Mathlib.Nat.{le-trans}
 use native.Mathlib.Omega.{arith}
-use lib.IntN.{ℤ, pos, negℤ, natAbs, _+ℤ_, _-ℤ_}
-use Rattle.algebra.specs.Sum.{sum, sum-add, neg-sum}
-use Rattle.algebra.specs.Integer.{Integers, natAbs-add}
-use Rattle.rules.specs.Conditions.{degree-of, maxZ, largest, row-degree-of, degree-sum-of}
+use lib.IntN.{ℤ, pos, natAbs, _+ℤ_, _-ℤ_}
+use Rattle.algebra.specs.Integer.{natAbs-add}
+use Rattle.rules.specs.Conditions.{shifted-degree-of, larger, largest, plus, total, less, row-degree-of, degree-sum-of}
 use Rattle.rules.specs.Sizes.{most-length, most-shift}
-use Rattle.rules.specs.Magnitudes.{natAbs-largest, natAbs-sum}
+use Rattle.rules.specs.DegreeLaws.{total-none, total-less, shifted-is}
+use Rattle.rules.specs.Magnitudes.{natAbs-largest, natAbs-total}
 use Rattle.layout.specs.Flat.{square-place, length-at, shift-at}
 use Rattle.layout.specs.Holds.{Short}
 use Rattle.degrees.specs.Signed.{natAbs-minus}
+use Rattle.degrees.specs.From.{from, from-end, from-step, from-zero}
 
 -- The lengths of P's entries and the shifts are within document 01's sizes.
 pub record Sized (lengths : List ℕ) (shifts : List ℤ) : Type 0 where
@@ -24,92 +26,80 @@ pub record Sized (lengths : List ℕ) (shifts : List ℤ) : Type 0 where
   pub shift-most : (j : ℕ) → natAbs (shift-at shifts j) ≤ most-shift
 
 -- Degree plus the column's shift.
-abbrev pub entry-term : List ℕ → List ℤ → ℕ → ℕ → ℤ
-entry-term lengths shifts i j = pos (degree-of (length-at lengths i j)) +ℤ shift-at shifts j
-
--- The largest from j on, up to n.
-abbrev pub largest-from : (ℕ → ℤ) → ℕ → ℕ → ℤ
-largest-from f n j = largest (n - j) (λ t. f (j + t))
-
--- The last one is the largest of itself …
-pub largest-from-last : (f : ℕ → ℤ) (n : ℕ) → largest-from f n n ≡ f n
-unfolding largest
-largest-from-last f n = ap (λ k. largest k (λ t. f (n + t))) (sub-self n) ∙ ap f (add-zero n)
-
-sub-suc : (n j : ℕ) → suc j ≤ n → n - j ≡ suc (n - suc j)
-sub-suc n j h = omega arith
-
-largest-from-suc : (f : ℕ → ℤ) (n j : ℕ) → suc j ≤ n → largest-from f n j ≡ maxZ (f j) (largest-from f n (suc j))
-unfolding largest
-largest-from-suc f n j b =
-    ap (λ k. largest k (λ t. f (j + t))) (sub-suc n j b)
-    ∙ ap₂ (λ x g. maxZ x (largest (n - suc j) g)) (ap f (add-zero j)) (fun-ext (λ t. ap f (add-suc j t ∙ sym (suc-add j t))))
-
--- … a step to the front takes the larger of that one and the largest so far …
-pub largest-from-step : (f : ℕ → ℤ) (n j : ℕ) → 0 < j → j ≤ n → maxZ (f (j - 1)) (largest-from f n j) ≡ largest-from f n (j - 1)
-largest-from-step f n j h b =
-    let e : j ≡ suc (j - 1) = omega arith in
-    ap (λ x. maxZ (f (j - 1)) (largest-from f n x)) e ∙ sym (largest-from-suc f n (j - 1) (omega arith))
-
--- … and from 0 on it is the largest of all.
-pub largest-from-zero : (f : ℕ → ℤ) (n : ℕ) → largest-from f n 0 ≡ largest n f
-largest-from-zero f n = ap₂ largest (sub-zero n) (fun-ext (λ t. ap f (zero-add t)))
-
-module _ (lengths : List ℕ) (shifts : List ℤ) (sized : Sized lengths shifts) where
-  -- The sizes of the terms and of the degrees of rows.
-  pub term-size : (i j : ℕ) → natAbs (entry-term lengths shifts i j) ≤ most-length + most-shift
-  unfolding degree-of
-  term-size i j =
-      le-trans (natAbs-add (pos (degree-of (length-at lengths i j))) (shift-at shifts j))
-      (omega (arith, sized .length-most (square-place i j), sized .shift-most j, pred-le (length-at lengths i j)))
-
-  pub row-degree-size : (m i : ℕ) → natAbs (row-degree-of m (length-at lengths i) (shift-at shifts)) ≤ most-length + most-shift
-  unfolding row-degree-of
-  row-degree-size m i = natAbs-largest (most-length + most-shift) (pred m) (entry-term lengths shifts i) (λ j b. term-size i j)
+abbrev pub entry-term : List ℕ → List ℤ → ℕ → ℕ → Option ℤ
+entry-term lengths shifts i j = shifted-degree-of (length-at lengths i j) (shift-at shifts j)
 
 -- The row degrees less the shifts, one by one.
-abbrev pub excess : List ℕ → List ℤ → ℕ → ℕ → ℤ
-excess lengths shifts m i = row-degree-of m (length-at lengths i) (shift-at shifts) -ℤ shift-at shifts i
+abbrev pub excess : List ℕ → List ℤ → ℕ → ℕ → Option ℤ
+excess lengths shifts m i = less (row-degree-of m (length-at lengths i) (shift-at shifts)) (shift-at shifts i)
 
--- The sum from i on, below n.
-abbrev pub sum-from : (ℕ → ℤ) → ℕ → ℕ → ℤ
-sum-from f n i = sum Integers (n - i) (λ t. f (i + t))
+-- The largest and the sum from a place on.
+abbrev pub largest-from : (ℕ → Option ℤ) → ℕ → ℕ → Option ℤ
+largest-from = from largest
 
--- It is 0 at the end …
-pub sum-from-end : (f : ℕ → ℤ) (n : ℕ) → sum-from f n n ≡ pos 0
-unfolding sum
-sum-from-end f n = ap (λ k. sum Integers k (λ t. f (n + t))) (sub-self n)
+abbrev pub total-from : (ℕ → Option ℤ) → ℕ → ℕ → Option ℤ
+total-from = from total
 
-sum-from-suc : (f : ℕ → ℤ) (n i : ℕ) → suc i ≤ n → sum-from f n i ≡ f i +ℤ sum-from f n (suc i)
-unfolding sum
-sum-from-suc f n i b =
-    ap (λ k. sum Integers k (λ t. f (i + t))) (sub-suc n i b)
-    ∙ ap₂ (λ x g. x +ℤ sum Integers (n - suc i) g) (ap f (add-zero i)) (fun-ext (λ t. ap f (add-suc i t ∙ sym (suc-add i t))))
+largest-zero : (f : ℕ → Option ℤ) → largest zero f ≡ none
+unfolding largest
+largest-zero f = refl
 
--- … a step to the front adds the number there …
-pub sum-from-step : (f : ℕ → ℤ) (n i : ℕ) → 0 < i → i ≤ n → f (i - 1) +ℤ sum-from f n i ≡ sum-from f n (i - 1)
-sum-from-step f n i h b =
-    let e : i ≡ suc (i - 1) = omega arith in
-    ap (λ x. f (i - 1) +ℤ sum-from f n x) e ∙ sym (sum-from-suc f n (i - 1) (omega arith))
+largest-suc : (n : ℕ) (f : ℕ → Option ℤ) → largest (suc n) f ≡ larger (f zero) (largest n (λ t. f (suc t)))
+unfolding largest
+largest-suc n f = refl
 
--- … and from 0 on it is the sum of all.
-pub sum-from-zero : (f : ℕ → ℤ) (n : ℕ) → sum-from f n 0 ≡ sum Integers n f
-sum-from-zero f n = ap₂ (sum Integers) (sub-zero n) (fun-ext (λ t. ap f (zero-add t)))
+total-zero : (f : ℕ → Option ℤ) → total zero f ≡ some (pos 0)
+unfolding total
+total-zero f = refl
 
--- The sum of the differences is the difference of the sums.
-pub degree-sum-excess : (lengths : List ℕ) (shifts : List ℤ) (m : ℕ) → sum Integers m (excess lengths shifts m) ≡ degree-sum-of m (length-at lengths) (shift-at shifts)
+total-suc : (n : ℕ) (f : ℕ → Option ℤ) → total (suc n) f ≡ plus (f zero) (total n (λ t. f (suc t)))
+unfolding total
+total-suc n f = refl
+
+-- Both begin at the end, …
+pub largest-from-end : (f : ℕ → Option ℤ) (n : ℕ) → largest-from f n n ≡ none
+largest-from-end = from-end largest larger none largest-zero largest-suc
+
+pub total-from-end : (f : ℕ → Option ℤ) (n : ℕ) → total-from f n n ≡ some (pos 0)
+total-from-end = from-end total plus (some (pos 0)) total-zero total-suc
+
+-- … and take one step after another to the front.
+pub largest-from-step : (f : ℕ → Option ℤ) (n j : ℕ) → 0 < j → j ≤ n → larger (f (j - 1)) (largest-from f n j) ≡ largest-from f n (j - 1)
+largest-from-step = from-step largest larger none largest-zero largest-suc
+
+pub total-from-step : (f : ℕ → Option ℤ) (n j : ℕ) → 0 < j → j ≤ n → plus (f (j - 1)) (total-from f n j) ≡ total-from f n (j - 1)
+total-from-step = from-step total plus (some (pos 0)) total-zero total-suc
+
+-- Over all rows the sum is Δ …
+pub total-excess : (lengths : List ℕ) (shifts : List ℤ) (m : ℕ)
+    → total m (excess lengths shifts m) ≡ degree-sum-of m (length-at lengths) (shift-at shifts)
 unfolding degree-sum-of
-degree-sum-excess lengths shifts m =
-    sum-add Integers m (λ i. row-degree-of m (length-at lengths i) (shift-at shifts)) (λ i. negℤ (shift-at shifts i))
-    ∙ ap (λ x. sum Integers m (λ i. row-degree-of m (length-at lengths i) (shift-at shifts)) +ℤ x) (sym (neg-sum Integers m (shift-at shifts)))
+total-excess lengths shifts m = total-less m (λ i. row-degree-of m (length-at lengths i) (shift-at shifts)) (shift-at shifts)
+
+-- … and there is none where a row has no degree.
+pub excess-none : (lengths : List ℕ) (shifts : List ℤ) (m i : ℕ) → i < m → row-degree-of m (length-at lengths i) (shift-at shifts) ≡ none
+    → degree-sum-of m (length-at lengths) (shift-at shifts) ≡ none
+excess-none lengths shifts m i b e =
+    sym (total-excess lengths shifts m) ∙ total-none m (excess lengths shifts m) i b (ap (λ o. less o (shift-at shifts i)) e)
 
 module _ (lengths : List ℕ) (shifts : List ℤ) (sized : Sized lengths shifts) where
-  -- The sizes of the differences and of their sums.
-  pub excess-size : (m i : ℕ) → natAbs (excess lengths shifts m i) ≤ most-length + most-shift + most-shift
-  excess-size m i =
-      le-trans (natAbs-minus (row-degree-of m (length-at lengths i) (shift-at shifts)) (shift-at shifts i))
-      (omega (arith, row-degree-size lengths shifts sized m i, sized .shift-most i))
+  -- The sizes of the degrees of rows, of what they exceed the shifts by, and of the sums.
+  pub row-degree-size : (m i : ℕ) (r : ℤ) → row-degree-of m (length-at lengths i) (shift-at shifts) ≡ some r → natAbs r ≤ most-length + most-shift
+  unfolding row-degree-of
+  row-degree-size m i =
+      natAbs-largest (most-length + most-shift) m (entry-term lengths shifts i) (λ j x b e.
+      let (d, l, is) = shifted-is (length-at lengths i j) (shift-at shifts j) x e in
+      omega (arith, ap natAbs is, natAbs-add (pos d) (shift-at shifts j), sized .length-most (square-place i j), sized .shift-most j))
 
-  pub sum-from-size : (m i : ℕ) → natAbs (sum-from (excess lengths shifts m) m i) ≤ (m - i) * (most-length + most-shift + most-shift)
-  sum-from-size m i =
-      natAbs-sum (most-length + most-shift + most-shift) (m - i) (λ t. excess lengths shifts m (i + t)) (λ t b. excess-size m (i + t))
+  pub excess-size : (m i : ℕ) (z : ℤ) → excess lengths shifts m i ≡ some z → natAbs z ≤ most-length + most-shift + most-shift
+  excess-size m i z e = by (row-degree-of m (length-at lengths i) (shift-at shifts)) refl e
+    where
+      by : (o : Option ℤ) → row-degree-of m (length-at lengths i) (shift-at shifts) ≡ o → less o (shift-at shifts i) ≡ some z
+          → natAbs z ≤ most-length + most-shift + most-shift
+      by none h e = absurd (Option·none-ne-some _ e)
+      by (some r) h e =
+          omega (arith, ap natAbs (Option·some-injective _ _ e), natAbs-minus r (shift-at shifts i), row-degree-size m i r h, sized .shift-most i)
+
+  pub total-from-size : (m i : ℕ) (z : ℤ) → total-from (excess lengths shifts m) m i ≡ some z → natAbs z ≤ (m - i) * (most-length + most-shift + most-shift)
+  total-from-size m i =
+      natAbs-total (most-length + most-shift + most-shift) (m - i) (λ t. excess lengths shifts m (i + t)) (λ t x b. excess-size m (i + t) x)

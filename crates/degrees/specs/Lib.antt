@@ -1,4 +1,6 @@
 pub mod Signed
+pub mod Degree
+pub mod From
 pub mod Degrees
 pub mod Claims
 pub mod Unique

@@ -1,23 +1,21 @@
-// Document 01, condition 1: the degrees of the rows for the shifts, which may be negative, and their sum.
+// Document 01, condition 1: the degrees of the rows for the shifts, which may be negative, and their sum. A row of zeros has none.
 ghost use mathlib.Core.Path.{_≡_};
 ghost use Prim.Native.Nat.{_+_, _^_, _<_, _≤_};
-ghost use lib.IntN.{pos, natAbs, _+ℤ_, _-ℤ_};
-ghost use Rattle.rules.specs.Conditions.{degree-of, maxZ, row-degree-of, degree-sum-of};
+ghost use lib.IntN.{natAbs, _+ℤ_, _-ℤ_};
+ghost use Rattle.rules.specs.Conditions.{shifted-degree-of, maxZ, larger, row-degree-of, degree-sum-of};
 ghost use Rattle.rules.specs.Verdict.{natural};
-ghost use Rattle.rules.specs.Sizes.{most-rows, most-length};
+ghost use Rattle.rules.specs.Sizes.{most-rows, most-length, most-shift};
 ghost use Rattle.layout.specs.Flat.{length-at, shift-at};
-ghost use Rattle.degrees.specs.Degrees.{Sized};
+ghost use Rattle.degrees.specs.Degree.{degree};
+ghost use Rattle.degrees.specs.Degrees.{Sized, entry-term};
 use layout::ROWS;
 use layout::SQUARE;
 use layout::square_place;
 
-// length: the number of coefficients of an entry.
-// Its degree: one less, and 0 for the entry 0.
-fn entry_degree(length: usize) -> i32
-    requires { ⌜ length ≤ most-length ⌝ }
-    ensures { λ r. ⌜ r ≡ pos (degree-of length) ⌝ }
-{
-    if length == 0 { 0 } else { (length - 1) as i32 }
+// A degree, or none: "A zero entry has no degree", and a row with no other entry has none.
+pub enum Degree {
+    Of(i32),
+    None,
 }
 
 // x and y: numbers whose sizes together are small enough.
@@ -40,10 +38,24 @@ pub fn minus(x: i32, y: i32) -> i32
 
 // x and y: any numbers.
 // The larger of the two.
-fn larger(x: i32, y: i32) -> i32
+fn larger_number(x: i32, y: i32) -> i32
     ensures { λ r. ⌜ r ≡ maxZ x y ⌝ }
 {
     if x <= y { y } else { x }
+}
+
+// x and y: any degrees, or none.
+// The larger of the two: none takes no part.
+fn larger_degree(x: Degree, y: Degree) -> Degree
+    ensures { λ r. ⌜ degree r ≡ larger (degree x) (degree y) ⌝ }
+{
+    let Degree::Of(a) = x else {
+        return y;
+    };
+    let Degree::Of(b) = y else {
+        return x;
+    };
+    Degree::Of(larger_number(a, b))
 }
 
 // x: any number.
@@ -54,46 +66,60 @@ pub fn not_negative(x: i32) -> u32
     if x < 0 { 0 } else { x as u32 }
 }
 
+// length: the number of coefficients of an entry. shift: its column's.
+// "degree plus that column's shift": none for a zero entry.
+fn shifted_degree(length: usize, shift: i32) -> Degree
+    requires { ⌜ (length ≤ most-length) × (natAbs shift ≤ most-shift) ⌝ }
+    ensures { λ r. ⌜ degree r ≡ shifted-degree-of length shift ⌝ }
+{
+    if length == 0 {
+        return Degree::None; // a zero entry
+    }
+    Degree::Of(plus((length - 1) as i32, shift))
+}
+
 // lengths, shifts: of the entries of P and of its columns. i and j: a row and a column.
 // The degree of the entry there plus the column's shift.
-fn term(lengths: &[usize; SQUARE], shifts: [i32; ROWS], i: usize, j: usize) -> i32
+fn term(lengths: &[usize; SQUARE], shifts: [i32; ROWS], i: usize, j: usize) -> Degree
     requires { ⌜ Sized (now lengths) shifts ⌝ }
     requires { ⌜ (i < most-rows) × (j < most-rows) ⌝ }
-    ensures { λ r. ⌜ r ≡ pos (degree-of (length-at (now (lengths .entry)) i j)) +ℤ shift-at shifts j ⌝ }
+    ensures { λ r. ⌜ degree r ≡ entry-term (now (lengths .entry)) shifts i j ⌝ }
 {
-    let degree = entry_degree(lengths[square_place(i, j)]);
-    plus(degree, shifts[j])
+    shifted_degree(lengths[square_place(i, j)], shifts[j])
 }
 
 // m: the number of columns. i: a row.
-// "the largest, over its entries, of degree plus that column's shift; it may be negative".
-pub fn row_degree(lengths: &[usize; SQUARE], shifts: [i32; ROWS], m: usize, i: usize) -> i32
+// "the largest, over its entries, of degree plus that column's shift; it may be negative": none for a row of zeros.
+pub fn row_degree(lengths: &[usize; SQUARE], shifts: [i32; ROWS], m: usize, i: usize) -> Degree
     requires { ⌜ Sized (now lengths) shifts ⌝ }
-    requires { ⌜ (0 < m) × ((m ≤ most-rows) × (i < most-rows)) ⌝ }
-    ensures { λ r. ⌜ r ≡ row-degree-of m (length-at (now (lengths .entry)) i) (shift-at shifts) ⌝ }
+    requires { ⌜ (m ≤ most-rows) × (i < most-rows) ⌝ }
+    ensures { λ r. ⌜ degree r ≡ row-degree-of m (length-at (now (lengths .entry)) i) (shift-at shifts) ⌝ }
 {
-    let mut j = m - 1;
-    let mut most = term(lengths, shifts, i, j);
+    let mut j = m;
+    let mut most = Degree::None;
     while 0 < j {
         j -= 1;
-        most = larger(term(lengths, shifts, i, j), most);
+        most = larger_degree(term(lengths, shifts, i, j), most);
     }
     most
 }
 
 // lengths, shifts: of the entries of P and of its columns. m: the number of rows and columns.
-// "the sum of the row degrees less the sum of the shifts".
-pub fn degree_sum(lengths: &[usize; SQUARE], shifts: [i32; ROWS], m: usize) -> i32
+// "the sum of the row degrees less the sum of the shifts": none where a row has no degree.
+pub fn degree_sum(lengths: &[usize; SQUARE], shifts: [i32; ROWS], m: usize) -> Degree
     requires { ⌜ Sized (now lengths) shifts ⌝ }
     requires { ⌜ m ≤ most-rows ⌝ }
-    ensures { λ r. ⌜ r ≡ degree-sum-of m (length-at (now (lengths .entry))) (shift-at shifts) ⌝ }
+    ensures { λ r. ⌜ degree r ≡ degree-sum-of m (length-at (now (lengths .entry))) (shift-at shifts) ⌝ }
 {
     let mut i = m;
     let mut sum: i32 = 0;
     while 0 < i {
         i -= 1;
-        let excess = minus(row_degree(lengths, shifts, m, i), shifts[i]);
+        let Degree::Of(row) = row_degree(lengths, shifts, m, i) else {
+            return Degree::None; // a row of zeros
+        };
+        let excess = minus(row, shifts[i]);
         sum = plus(excess, sum);
     }
-    sum
+    Degree::Of(sum)
 }

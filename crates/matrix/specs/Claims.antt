@@ -5,14 +5,13 @@
 use mathlib.Core.Path.{_≡_, ap, ap₂, fun-ext, _∙_}
 use mathlib.Core.List.{List, []}
 use Prim.Native.Nat.{ℕ, _+_, _≤_, _<_}
-use lib.IntN.{ℤ, _-ℤ_}
+use lib.IntN.{ℤ}
 use lib.ListN.{getD}
 use Rattle.algebra.specs.Residue.{K, red}
-use Rattle.algebra.specs.Degree.{coefficient}
 use Rattle.algebra.specs.Matrix.{beside-same}
 use Rattle.rules.specs.Claim.{Problem}
-use Rattle.rules.specs.Matrices.{at, matrix-C}
-use Rattle.rules.specs.Conditions.{leading-matrix, rank-matrix}
+use Rattle.rules.specs.Matrices.{shift, at, matrix-C}
+use Rattle.rules.specs.Conditions.{row-degree, leading-coefficient, leading-matrix, rank-matrix}
 use Rattle.rules.specs.Sizes.{most-rows}
 use Rattle.layout.specs.Flat.{square-place, cells}
 use Rattle.layout.specs.Holds.{EntryCells, EntryLengths, Shifts, Constants}
@@ -27,7 +26,8 @@ module _ (b : Problem) (P : List (List (List ℕ))) (entries : List ℕ) where
       → red (b .p) (getD (getD (array-of (b .m) (b .m) (leading-number entries lengths shifts (b .m))) i []) j 0) ≡ leading-matrix b P i j
   leading-rules ha lengths shifts hl hs hm i j hi hj =
       leading-array (b .p) entries lengths shifts (b .m) i j hi hj hm
-      ∙ ap₂ (coefficient (K (b .p))) (ap₂ _-ℤ_ (row-degree-rules b P lengths shifts hl hs i hi) (hs j hj)) (fun-ext (λ k. ap (red (b .p)) (ha i j k hi hj)))
+      ∙ ap₂ (λ o s. leading-coefficient (b .p) o s (cells (b .p) entries i j)) (row-degree-rules b P lengths shifts hl hs i hi) (hs j hj)
+      ∙ ap (leading-coefficient (b .p) (row-degree b P i) (shift b j)) (fun-ext (λ k. ap (red (b .p)) (ha i j k hi hj)))
 
   -- Condition 4: the matrix [P(0) C].
   pub rank-rules : EntryCells b P entries → (C : List (List ℕ)) (c : List ℕ) → Constants b C c → b .m ≤ most-rows → b .n ≤ most-rows → (i j : ℕ) → i < b .m → j < b .m + b .n

@@ -2,7 +2,7 @@
 --   row-of n g               the row of g 0, …, g (n − 1), and zeros
 --   array-of m n g           the m rows of g with n columns, and zeros
 --   Filled d z n k g l       the list l of n values has g i at each i below k, and z from there on; read with the default d
-use mathlib.Core.Path.{_≡_, refl, sym, ap, subst, _∙_}
+use mathlib.Core.Path.{_≡_, refl, sym, ap, subst, fun-ext, _∙_}
 use mathlib.Core.Bool.{Bool, true, false, cond}
 use mathlib.Core.Logic.{_≢_}
 use mathlib.Core.List.{List, []}
@@ -44,6 +44,11 @@ up-to-below z k g i h = ap (λ b. cond b (g i) z) (lt-ltb i k h)
 
 pub up-to-above : {A : Type 0} (z : A) (k : ℕ) (g : ℕ → A) (i : ℕ) → k ≤ i → up-to z k g i ≡ z
 up-to-above z k g i h = ap (λ b. cond b (g i) z) (le-ltb i k h)
+
+-- A row of zeros, however many of them count.
+pub row-of-zeros : (n : ℕ) (g : ℕ → ℕ) → ((j : ℕ) → g j ≡ 0) → row-of n g ≡ zero-row
+unfolding row-of zero-row
+row-of-zeros n g zeros = ap (table width) (fun-ext (λ j. elim (ltb j n) as (λ b. cond b (g j) 0 ≡ 0) [ true ↦ zeros j | false ↦ refl ]))
 
 -- One value more changes only that one.
 ltb-other : (i k : ℕ) → i ≢ k → ltb i (k + 1) ≡ ltb i k

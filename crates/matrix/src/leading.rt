@@ -4,8 +4,9 @@ ghost use Prim.Native.Nat.{_<_, _≤_};
 ghost use Rattle.rules.specs.Sizes.{most-rows};
 ghost use Rattle.layout.specs.Flat.{cell};
 ghost use Rattle.degrees.specs.Degrees.{Sized};
-ghost use Rattle.matrix.specs.Leading.{at-power, leading-number};
+ghost use Rattle.matrix.specs.Leading.{exponent-of, at-power, leading-number};
 ghost use Rattle.matrix.specs.Fill.{row-of, array-of};
+use degrees::Degree;
 use degrees::minus;
 use degrees::row_degree;
 use layout::COLUMNS;
@@ -15,16 +16,21 @@ use layout::ROWS;
 use layout::SQUARE;
 use layout::entry_place;
 
+// power: any number.
+// The number itself, and where it is negative one at which no entry has a coefficient.
+fn exponent(power: i32) -> usize
+    ensures { λ r. ⌜ r ≡ exponent-of power ⌝ }
+{
+    if power < 0 { LENGTH } else { power as usize }
+}
+
 // entries: the coefficients of P. i and j: a row and a column. power: any number.
 // The coefficient of the entry there at the power, 0 where there is none or the power is negative.
 fn entry_at(entries: &[u32; ENTRY_COEFFICIENTS], power: i32, i: usize, j: usize) -> u32
     requires { ⌜ (i < most-rows) × (j < most-rows) ⌝ }
     ensures { λ r. ⌜ r ≡ at-power power (cell (now (entries .entry)) i j) ⌝ }
 {
-    if power < 0 {
-        return 0;
-    }
-    let k = power as usize;
+    let k = exponent(power);
     if k < LENGTH {
         entries[entry_place(i, j, k)]
     } else {
@@ -33,7 +39,7 @@ fn entry_at(entries: &[u32; ENTRY_COEFFICIENTS], power: i32, i: usize, j: usize)
 }
 
 // entries, lengths, shifts, m: of P. i: a row.
-// The row i of the leading matrix, and zeros.
+// The row i of the leading matrix, and zeros: only zeros where the row has no degree.
 fn leading_row<'a>(
     entries: &'a [u32; ENTRY_COEFFICIENTS],
     lengths: &'a [usize; SQUARE],
@@ -42,11 +48,13 @@ fn leading_row<'a>(
     i: usize,
 ) -> [u32; COLUMNS]
     requires { ⌜ Sized (now lengths) shifts ⌝ }
-    requires { ⌜ (0 < m) × ((m ≤ most-rows) × (i < most-rows)) ⌝ }
+    requires { ⌜ (m ≤ most-rows) × (i < most-rows) ⌝ }
     ensures { λ r. ⌜ r ≡ row-of m (leading-number (now (entries .entry)) (now (lengths .entry)) shifts m i) ⌝ }
 {
-    let degree = row_degree(lengths, shifts, m, i);
     let mut row = [0; COLUMNS];
+    let Degree::Of(degree) = row_degree(lengths, shifts, m, i) else {
+        return row;
+    };
     let mut j = 0;
     while j < m {
         let power = minus(degree, shifts[j]);
@@ -65,7 +73,7 @@ pub fn leading_matrix<'a>(
     m: usize,
 ) -> [[u32; COLUMNS]; ROWS]
     requires { ⌜ Sized (now lengths) shifts ⌝ }
-    requires { ⌜ (0 < m) × (m ≤ most-rows) ⌝ }
+    requires { ⌜ m ≤ most-rows ⌝ }
     ensures { λ r. ⌜ r ≡ array-of m m (leading-number (now (entries .entry)) (now (lengths .entry)) shifts m) ⌝ }
 {
     let mut rows = [[0; COLUMNS]; ROWS];

@@ -6,6 +6,7 @@
 use mathlib.Core.Path.{_≡_, sym, _∙_}
 use mathlib.Core.Logic.{_↔_, Iff·trans, Iff·symm}
 use mathlib.Core.List.{[]}
+use mathlib.Core.Option.{some}
 use Prim.Native.Nat.{ℕ, _<_}
 use native.Mathlib.Nat.{le-of-lt, mod-eq-of-lt}
 use native.Mathlib.Decide.{ℕ-discrete}
@@ -102,7 +103,7 @@ pub pass-means-plain : (c : Claim) → Valid c → ((d : ℕ) × (judge-claim c 
 pass-means-plain c valid = pass-iff-plain c (valid .valid-problem .prime) (valid .valid-answer .C-range)
 
 -- For a passed claim the number in the verdict is the degree sum itself, and the determinant is a nonzero constant times X to it.
-pub passed-exponent : (c : Claim) → Valid c → (d : ℕ) → judge-claim c ≡ passed d → (degree-sum (c .problem) (c .answer .P) ≡ pos d) × IsMonomial c d
+pub passed-exponent : (c : Claim) → Valid c → (d : ℕ) → judge-claim c ≡ passed d → (degree-sum (c .problem) (c .answer .P) ≡ some (pos d)) × IsMonomial c d
 passed-exponent c valid d e =
     let (r, monomial, no-low, no-order, full, exponent) = judge-claim-meaning c (le-of-lt (valid .valid-problem .prime .two-le)) (passed d) .0 e in
     (exponent, monomial)

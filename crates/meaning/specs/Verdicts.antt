@@ -2,7 +2,7 @@
 -- always applies.
 --   Reduced, IsMonomial, LowFault, OrderFault, FullRank      the conditions as statements about a claim
 --   FirstAt, Nowhere                                         the first place that has a fault; no place has one
---   Says c v                                                 what the verdict v says of the claim c
+--   SaysBy, Says c v                                         what the verdict v says of the claim c
 --   judge-claim-meaning                                      it is given exactly if that holds
 --   one-applies, verdicts-exclusive                          one holds, and no two
 use mathlib.Core.Path.{_≡_, refl, sym, ap, subst, _∙_}
@@ -11,7 +11,7 @@ use mathlib.Core.Bool.{Bool, true, false, cond}
 use mathlib.Core.List.{[]}
 use mathlib.Core.Option.{Option, none, some}
 use Prim.Native.Nat.{ℕ, _+_, _%_, _<_}
-use lib.IntN.{pos}
+use lib.IntN.{ℤ, pos}
 use lib.ListN.{getD}
 use Rattle.algebra.specs.Residue.{red, red-value, red-zero-iff, K-decides}
 use Rattle.algebra.specs.Matrix.{Matrix, mmul}
@@ -22,7 +22,7 @@ use Rattle.rules.specs.Claim.{Claim}
 use Rattle.rules.specs.Matrices.{order, at, product}
 use Rattle.rules.specs.Conditions.{leading-matrix, reduced, determinant, monomial-determinant, degree-sum, low-fault, order-fault, first-place, rank-matrix}
 use Rattle.rules.specs.Conditions.{rank-below}
-use Rattle.rules.specs.Verdict.{Verdict, passed, unread, not-reduced, not-monomial, below-order, at-order, low-rank, no-room, written, natural, judge-claim}
+use Rattle.rules.specs.Verdict.{Verdict, passed, unread, not-reduced, not-monomial, below-order, at-order, low-rank, no-room, written, pass-with, judge-claim}
 use Rattle.rules.specs.Verdict.{by-product, by-rank}
 use Rattle.rules.specs.BoolLaws.{false-iff}
 use Rattle.rules.specs.SearchLaws.{first-place-none, first-place-some}
@@ -82,29 +82,34 @@ LowRank c = Dependent (field-of c) (c .problem .m) (c .problem .m + c .problem .
 abbrev pub FullRank : Claim → Type 0
 FullRank c = Independent (field-of c) (c .problem .m) (c .problem .m + c .problem .n) (rank-of c)
 
--- What each verdict says of a claim: its own condition, and that none before it applies.
-abbrev pub Says : Claim → Verdict → Type 0
-Says c not-reduced = ¬ Reduced c
-Says c not-monomial = Reduced c × (¬ SomeMonomial c)
-Says c (below-order i j) = Reduced c × SomeMonomial c × FirstAt (c .problem .m) (c .problem .n) (LowFault c) i j
-Says c (at-order i j) =
-    Reduced c × SomeMonomial c × Nowhere (c .problem .m) (c .problem .n) (LowFault c) × FirstAt (c .problem .m) (c .problem .n) (OrderFault c) i j
-Says c low-rank =
-    Reduced c
+-- What each verdict says of a claim: its own condition, and that none before it applies; for a reading of "reduced" and of Δ, which
+-- document 02 changed in L2.
+abbrev pub SaysBy : Type 0 → Option ℤ → Claim → Verdict → Type 0
+SaysBy IsReduced sum c not-reduced = ¬ IsReduced
+SaysBy IsReduced sum c not-monomial = IsReduced × (¬ SomeMonomial c)
+SaysBy IsReduced sum c (below-order i j) = IsReduced × SomeMonomial c × FirstAt (c .problem .m) (c .problem .n) (LowFault c) i j
+SaysBy IsReduced sum c (at-order i j) =
+    IsReduced × SomeMonomial c × Nowhere (c .problem .m) (c .problem .n) (LowFault c) × FirstAt (c .problem .m) (c .problem .n) (OrderFault c) i j
+SaysBy IsReduced sum c low-rank =
+    IsReduced
     × SomeMonomial c
     × Nowhere (c .problem .m) (c .problem .n) (LowFault c)
     × Nowhere (c .problem .m) (c .problem .n) (OrderFault c)
     × LowRank c
-Says c (passed d) =
-    Reduced c
+SaysBy IsReduced sum c (passed d) =
+    IsReduced
     × IsMonomial c d
     × Nowhere (c .problem .m) (c .problem .n) (LowFault c)
     × Nowhere (c .problem .m) (c .problem .n) (OrderFault c)
     × FullRank c
-    × (degree-sum (c .problem) (c .answer .P) ≡ pos d)
-Says c (unread r) = ⊥
-Says c (no-room k) = ⊥
-Says c (written k) = ⊥
+    × (sum ≡ some (pos d))
+SaysBy IsReduced sum c (unread r) = ⊥
+SaysBy IsReduced sum c (no-room k) = ⊥
+SaysBy IsReduced sum c (written k) = ⊥
+
+-- What each says by the rules.
+abbrev pub Says : Claim → Verdict → Type 0
+Says c = SaysBy (Reduced c) (degree-sum (c .problem) (c .answer .P)) c
 
 -- THE TESTS AS STATEMENTS
 
@@ -192,7 +197,7 @@ module _ (c : Claim) (positive : 0 < c .problem .p) where
                     | none ↦
                         elim o [
                           | some place ↦ at-order (place .0) (place .1)
-                          | none ↦ cond k low-rank (passed (natural (degree-sum (c .problem) (c .answer .P))))
+                          | none ↦ cond k low-rank (pass-with (degree-sum (c .problem) (c .answer .P)))
                         ]
                   ]
             ]
@@ -248,14 +253,9 @@ module _ (c : Claim) (positive : 0 < c .problem .p) where
   says-by-tests true true none none true er ed el eo ek = (reduced-is .0 er, monomial-is .0 ed, no-low-is .0 el, no-order-is .0 eo, rank-iff .0 ek)
   says-by-tests true true none none false er ed el eo ek =
       let (e, ne, others) = monomial-is .0 ed in
-      let exponent : degree-sum (c .problem) (c .answer .P) ≡ pos e = degree-sum-exponent (c .problem) (c .answer .P) er (e, ne, others) in (
-        reduced-is .0 er,
-        subst (IsMonomial c) (sym (ap natural exponent)) (ne, others),
-        no-low-is .0 el,
-        no-order-is .0 eo,
-        full-rank-iff .0 ek,
-        exponent ∙ ap pos (sym (ap natural exponent)),
-      )
+      let exponent : degree-sum (c .problem) (c .answer .P) ≡ some (pos e) = degree-sum-exponent (c .problem) (c .answer .P) er (e, ne, others) in
+      subst (Says c) (sym (ap pass-with exponent))
+      (reduced-is .0 er, (ne, others), no-low-is .0 el, no-order-is .0 eo, full-rank-iff .0 ek, exponent)
 
   -- One always applies: the verdict that is given says what holds …
   pub one-applies : Says c (judge-claim c)
@@ -270,7 +270,7 @@ module _ (c : Claim) (positive : 0 < c .problem .p) where
   given low-rank (r, d, l, o, k) = judge-by-tests (reduced-is .1 r) (monomial-is .1 d) (no-low-is .1 l) (no-order-is .1 o) (rank-iff .1 k)
   given (passed e) (r, d, l, o, k, exponent) =
       judge-by-tests (reduced-is .1 r) (monomial-is .1 (e, d .0, d .1)) (no-low-is .1 l) (no-order-is .1 o) (full-rank-iff .1 k)
-      ∙ ap (λ z. passed (natural z)) exponent
+      ∙ ap pass-with exponent
   given (unread q) h = absurd h
   given (no-room k) h = absurd h
   given (written k) h = absurd h

@@ -1,4 +1,5 @@
 -- Document 01, "Judgements worked by hand": the marked cases, as one list with one proof over it, and those that are not marked.
+--   Case, written            two files and their verdict; those of a claim
 --   one-by-one, two-by-one   the claims that they are made of
 --   marked, marked-judged    the marked cases
 --   unmarked, unmarked-judged          the others, with the edges and a refusal of each kind
@@ -23,7 +24,7 @@ pub record Case : Type 0 where
   pub expected : Numbers
 
 -- The files of a claim.
-abbrev written : Claim → Numbers → Case
+abbrev pub written : Claim → Numbers → Case
 written c v = record { problem = write-problem (c .problem); answer = write-answer (c .answer); expected = v }
 
 -- One row and one column: p, the order, the shift, P, F and C.

@@ -2,7 +2,8 @@
 --   reduced, monomial-determinant      conditions 1 and 2
 --   first-place, low-fault, order-fault      condition 3, and the place of its first fault
 --   rank-below                         condition 4
---   degree-of, row-degree-of, degree-sum-of      degrees by the lengths of the entries; of a claim: row-degree, degree-sum (Δ)
+--   degree-of, row-degree-of, degree-sum-of      degrees by the lengths of the entries, none for what is zero; of a claim: row-degree,
+--                                      degree-sum (Δ)
 use mathlib.Core.Bool.{Bool, true, false, cond, not}
 use mathlib.Core.List.{List, []}
 use mathlib.Core.Option.{Option, none, some}
@@ -17,7 +18,7 @@ use Rattle.algebra.specs.Sum.{sum}
 use Rattle.algebra.specs.Series.{Series}
 use Rattle.algebra.specs.Matrix.{Row, Matrix, cons, beside, vmul}
 use Rattle.algebra.specs.Det.{det}
-use Rattle.algebra.specs.Degree.{leading}
+use Rattle.algebra.specs.Degree.{coefficient}
 use Rattle.algebra.specs.PolyMatrix.{entries}
 use Rattle.rules.specs.Claim.{Problem}
 use Rattle.rules.specs.Matrices.{order, shift, at, matrix-P, matrix-C, product}
@@ -33,32 +34,48 @@ some-below (suc n) test = elim (test zero) [ true ↦ true | false ↦ some-belo
 
 -- 1. REDUCED
 
--- The degree of an entry with so many coefficients: "An entry of length 0 counts as degree 0."
-unfoldable pub degree-of : ℕ → ℕ
-degree-of n = pred n
+-- The degree of an entry with so many coefficients: "A zero entry has no degree" (document 02, L2).
+unfoldable pub degree-of : ℕ → Option ℕ
+degree-of zero = none
+degree-of (suc d) = some d
+
+-- "degree plus that column's shift", by the length of the entry and the shift: none for a zero entry.
+unfoldable pub shifted-degree-of : ℕ → ℤ → Option ℤ
+shifted-degree-of length shift = elim (degree-of length) [ none ↦ none | some d ↦ some (pos d +ℤ shift) ]
 
 -- The larger of two.
 abbrev pub maxZ : ℤ → ℤ → ℤ
 maxZ a b = cond (leZ a b) b a
 
--- The largest of f 0, …, f n.
-unfoldable pub largest : ℕ → (ℕ → ℤ) → ℤ
-largest zero f = f zero
-largest (suc n) f = maxZ (f zero) (largest n (λ j. f (suc j)))
+-- The larger of two that may be none: none "takes no part".
+abbrev pub larger : Option ℤ → Option ℤ → Option ℤ
+larger none y = y
+larger (some a) none = some a
+larger (some a) (some b) = some (maxZ a b)
 
--- "The degree of row i is the largest, over its entries, of degree plus that column's shift; it may be negative." Of a row with m
--- entries, by their lengths and the shifts …
-unfoldable pub row-degree-of : ℕ → (ℕ → ℕ) → (ℕ → ℤ) → ℤ
-row-degree-of m lengths shifts = largest (pred m) (λ j. pos (degree-of (lengths j)) +ℤ shifts j)
+-- The largest of f 0, …, f (n − 1), none where all are.
+unfoldable pub largest : ℕ → (ℕ → Option ℤ) → Option ℤ
+largest zero f = none
+largest (suc n) f = larger (f zero) (largest n (λ j. f (suc j)))
+
+-- "The degree of row i is the largest, over its entries, of degree plus that column's shift; it may be negative." "A row with no entry
+-- other than zero has no row degree" (document 02, L2). Of a row with m entries, by their lengths and the shifts …
+unfoldable pub row-degree-of : ℕ → (ℕ → ℕ) → (ℕ → ℤ) → Option ℤ
+row-degree-of m lengths shifts = largest m (λ j. shifted-degree-of (lengths j) (shifts j))
 
 -- … and of row i of P.
-abbrev pub row-degree : (b : Problem) → List (List (List ℕ)) → ℕ → ℤ
+abbrev pub row-degree : (b : Problem) → List (List (List ℕ)) → ℕ → Option ℤ
 row-degree b P i = row-degree-of (b .m) (λ j. length (at P i j)) (shift b)
 
--- "The leading matrix holds at (i, j) the coefficient of P's entry at the power (row degree − s_j), or 0 if the entry has none there
--- or that power is negative."
+-- The coefficient of a polynomial at the power (row degree − shift), 0 "if the entry has none there or that power is negative", and 0 in a
+-- row that has no degree.
+abbrev pub leading-coefficient : (p : ℕ) → Option ℤ → ℤ → (ℕ → Residue p) → Residue p
+leading-coefficient p none s f = K p .𝟘
+leading-coefficient p (some r) s f = coefficient (K p) (r -ℤ s) f
+
+-- "The leading matrix holds at (i, j) the coefficient of P's entry at the power (row degree − s_j)"
 abbrev pub leading-matrix : (b : Problem) → List (List (List ℕ)) → Matrix (K (b .p))
-leading-matrix b P = leading (K (b .p)) (row-degree b P) (shift b) (entries (K (b .p)) (matrix-P b P))
+leading-matrix b P i j = leading-coefficient (b .p) (row-degree b P i) (shift b j) (matrix-P b P i j .series)
 
 -- "P is reduced if the leading matrix has a determinant other than 0"
 unfoldable pub reduced : Problem → List (List (List ℕ)) → Bool
@@ -95,12 +112,29 @@ count-nonzero p (suc n) f = cond (is-zero p (f zero)) 0 1 + count-nonzero p n (�
 unfoldable pub monomial-determinant : Problem → List (List (List ℕ)) → Bool
 monomial-determinant b P = eqb (count-nonzero (b .p) (determinant-bound b P) (determinant b P)) 1
 
--- "Δ is the sum of the row degrees less the sum of the shifts", by the lengths of the entries and the shifts …
-unfoldable pub degree-sum-of : ℕ → (ℕ → ℕ → ℕ) → (ℕ → ℤ) → ℤ
-degree-sum-of m lengths shifts = sum Integers m (λ i. row-degree-of m (lengths i) shifts) -ℤ sum Integers m shifts
+-- The sum of two that may be none, …
+abbrev pub plus : Option ℤ → Option ℤ → Option ℤ
+plus none y = none
+plus (some a) none = none
+plus (some a) (some b) = some (a +ℤ b)
+
+-- … and that of f 0, …, f (n − 1): none where one is.
+unfoldable pub total : ℕ → (ℕ → Option ℤ) → Option ℤ
+total zero f = some (pos 0)
+total (suc n) f = plus (f zero) (total n (λ i. f (suc i)))
+
+-- One that may be none, less an integer.
+abbrev pub less : Option ℤ → ℤ → Option ℤ
+less none s = none
+less (some a) s = some (a -ℤ s)
+
+-- "Δ is the sum of the row degrees less the sum of the shifts", by the lengths of the entries and the shifts: none where a row has no
+-- degree …
+unfoldable pub degree-sum-of : ℕ → (ℕ → ℕ → ℕ) → (ℕ → ℤ) → Option ℤ
+degree-sum-of m lengths shifts = less (total m (λ i. row-degree-of m (lengths i) shifts)) (sum Integers m shifts)
 
 -- … of P.
-abbrev pub degree-sum : Problem → List (List (List ℕ)) → ℤ
+abbrev pub degree-sum : Problem → List (List (List ℕ)) → Option ℤ
 degree-sum b P = degree-sum-of (b .m) (λ i j. length (at P i j)) (shift b)
 
 -- 3. PRODUCT

@@ -7,6 +7,7 @@ use mathlib.Core.Path.{_≡_, refl, sym, ap, subst, _∙_}
 use mathlib.Core.Logic.{_≢_, _↔_, Iff·trans}
 use mathlib.Core.Bool.{true, cond}
 use mathlib.Core.List.{List}
+use mathlib.Core.Option.{some}
 use Prim.Native.Nat.{ℕ, zero, suc, pred, _+_, _≤_, _<_, zero-le, suc-le-suc}
 use native.Mathlib.Nat.{le-of-suc-le-suc, not-suc-le-zero, zero-lt-suc, le-refl, le-trans, le-max-left, le-max-right, zero-add, suc-inj, suc-ne-zero, lt-of-not-le}
 use native.Mathlib.Omega.{arith}
@@ -139,7 +140,7 @@ module _ (b : Problem) (P : List (List (List ℕ))) where
 
   -- "Δ … for a passed answer … is the exponent of X": of a reduced P whose determinant is a nonzero constant times a power of X, the
   -- degree sum is the exponent.
-  pub degree-sum-exponent : reduced b P ≡ true → (monomial : Monomial (K (b .p)) (determinant b P)) → degree-sum b P ≡ pos (monomial .0)
+  pub degree-sum-exponent : reduced b P ≡ true → (monomial : Monomial (K (b .p)) (determinant b P)) → degree-sum b P ≡ some (pos (monomial .0))
   degree-sum-exponent r (e, ne, others) =
       let (d, same, below, nz) = degree-sum-natural b P r in
-      same ∙ ap pos (elim (ℕ-discrete d e) [ yes q ↦ q | no nq ↦ absurd (nz (others d nq)) ])
+      same ∙ ap (λ n. some (pos n)) (elim (ℕ-discrete d e) [ yes q ↦ q | no nq ↦ absurd (nz (others d nq)) ])

@@ -14,10 +14,13 @@ pub mod Print
 pub mod Inverse
 pub mod Run
 pub mod Cases
+pub mod Requested
 pub mod BoolLaws
 pub mod SearchLaws
+pub mod DegreeLaws
 pub mod Magnitudes
 pub mod ReducedLaws
+pub mod RowDegrees
 pub mod DeterminantLaws
 pub mod ProductLaws
 pub mod InverseLaws

@@ -5,12 +5,12 @@
 use mathlib.Core.Path.{_≡_, refl, sym, ap, _∙_}
 use mathlib.Core.Bool.{Bool, true, false}
 use mathlib.Core.List.{List, _++_}
-use mathlib.Core.Option.{Option, none, some}
-use Prim.Native.Nat.{ℕ, pred, _+_, _-_, _*_, _%_, _^_, _≤_, _<_, zero-le}
+use mathlib.Core.Option.{Option, none, some, Option·some-injective, Option·none-ne-some}
+use Prim.Native.Nat.{ℕ, _+_, _-_, _*_, _%_, _^_, _≤_, _<_, zero-le}
 use native.Mathlib.Nat.{le-refl, mul-le-mul, add-mul-mod-self-left, mod-eq-of-lt, eq-of-mul-eq-mul-left}
 use native.Mathlib.Omega.{arith}
 use lib.Dec.{leb}
-use lib.IntN.{ℤ, pos, negsuc, natAbs, negℤ, _+ℤ_}
+use lib.IntN.{ℤ, pos, negsuc, natAbs, negℤ}
 use lib.ListN.{length, drop}
 use Rattle.algebra.specs.Integer.{Integers, natAbs-add, natAbs-neg}
 use Rattle.algebra.specs.Sum.{sum}
@@ -20,14 +20,15 @@ use Rattle.rules.specs.Claim.{Problem, Claim}
 use Rattle.rules.specs.Files.{read-claim, read-basis}
 use Rattle.rules.specs.Valid.{ValidProblem, ValidBasis, Valid}
 use Rattle.rules.specs.Matrices.{shift, at}
-use Rattle.rules.specs.Conditions.{degree-of, row-degree-of, row-degree, degree-sum-of, degree-sum, reduced, monomial-determinant, rank-below, low-fault, order-fault}
+use Rattle.rules.specs.Conditions.{shifted-degree-of, row-degree-of, row-degree, total, less, degree-sum-of, degree-sum, reduced, monomial-determinant, rank-below, low-fault, order-fault}
 use Rattle.rules.specs.Conditions.{first-place}
 use Rattle.rules.specs.Verdict.{Numbers, passed, unread, not-reduced, not-monomial, below-order, at-order, low-rank, no-room, written, four, numbers}
-use Rattle.rules.specs.Verdict.{natural, by-rank, by-product, judge-claim, verdict, packed}
+use Rattle.rules.specs.Verdict.{natural, pass-with, by-rank, by-product, judge-claim, verdict, packed}
 use Rattle.rules.specs.Evidence.{Made, make-evidence, evidence-size, evidence-of}
 use Rattle.rules.specs.Writer.{write-CE}
 use Rattle.rules.specs.BoolLaws.{cond-cases}
-use Rattle.rules.specs.Magnitudes.{natAbs-largest, natAbs-sum}
+use Rattle.rules.specs.DegreeLaws.{shifted-is}
+use Rattle.rules.specs.Magnitudes.{natAbs-largest, natAbs-sum, natAbs-total}
 use Rattle.rules.specs.SearchLaws.{FirstPlace, first-place-some}
 use Rattle.rules.specs.Soundness.{longest-PE, longest-basis, longest-answer}
 use Rattle.rules.specs.Ranges.{claim-valid, read-basis-valid}
@@ -71,42 +72,52 @@ natural-natAbs (negsuc d) = zero-le
 
 -- The degree sum of a valid claim is small.
 module _ (b : Problem) (P : List (List (List ℕ))) (valid : ValidProblem b) (basis : ValidBasis b P) where
-  row-degree-most : (i : ℕ) → natAbs (row-degree b P i) ≤ most-order + most-shift
-  unfolding row-degree-of degree-of most-length most-order
-  row-degree-most i = natAbs-largest (most-order + most-shift) (pred (b .m)) (λ j. pos (degree-of (length (at P i j))) +ℤ shift b j)
-      (λ j hj.
-      let added : natAbs (pos (degree-of (length (at P i j))) +ℤ shift b j) ≤ pred (length (at P i j)) + natAbs (shift b j) =
-      natAbs-add (pos (degree-of (length (at P i j)))) (shift b j) in
-      omega (arith, valid .shift-most j, basis .P-entry-length i j))
+  row-degree-most : (i : ℕ) (r : ℤ) → row-degree b P i ≡ some r → natAbs r ≤ most-order + most-shift
+  unfolding row-degree-of most-length most-order
+  row-degree-most i =
+      natAbs-largest (most-order + most-shift) (b .m) (λ j. shifted-degree-of (length (at P i j)) (shift b j)) (λ j x hj e.
+      let (d, l, is) = shifted-is (length (at P i j)) (shift b j) x e in
+      omega (arith, ap natAbs is, natAbs-add (pos d) (shift b j), valid .shift-most j, basis .P-entry-length i j))
 
-  degree-sum-most : natural (degree-sum b P) ≤ most-rows * (most-order + most-shift + most-shift)
+  degree-sum-most : (z : ℤ) → degree-sum b P ≡ some z → natural z ≤ most-rows * (most-order + most-shift + most-shift)
   unfolding degree-sum-of most-rows
-  degree-sum-most = omega (
-    arith,
-    natural-natAbs (degree-sum b P),
-    natAbs-add (sum Integers (b .m) (row-degree b P)) (negℤ (sum Integers (b .m) (shift b))),
-    natAbs-neg (sum Integers (b .m) (shift b)),
-    natAbs-sum (most-order + most-shift) (b .m) (row-degree b P) (λ i hi. row-degree-most i),
-    natAbs-sum most-shift (b .m) (shift b) (λ i hi. valid .shift-most i),
-    mul-le-mul (valid .rows-most) (le-refl (most-order + most-shift)),
-    mul-le-mul (valid .rows-most) (le-refl most-shift),
-  )
+  degree-sum-most z e = by (total (b .m) (row-degree b P)) refl e
+    where
+      by : (o : Option ℤ) → total (b .m) (row-degree b P) ≡ o → less o (sum Integers (b .m) (shift b)) ≡ some z
+          → natural z ≤ most-rows * (most-order + most-shift + most-shift)
+      by none t h = absurd (Option·none-ne-some _ h)
+      by (some r) t h = omega (
+        arith,
+        natural-natAbs z,
+        ap natAbs (Option·some-injective _ _ h),
+        natAbs-add r (negℤ (sum Integers (b .m) (shift b))),
+        natAbs-neg (sum Integers (b .m) (shift b)),
+        natAbs-total (most-order + most-shift) (b .m) (row-degree b P) (λ i x hi. row-degree-most i x) r t,
+        natAbs-sum most-shift (b .m) (shift b) (λ i hi. valid .shift-most i),
+        mul-le-mul (valid .rows-most) (le-refl (most-order + most-shift)),
+        mul-le-mul (valid .rows-most) (le-refl most-shift),
+      )
 
 -- THE ANSWERS
 
 module _ (c : Claim) (valid : Valid c) where
+  pass-fits : (o : Option ℤ) → degree-sum (c .problem) (c .answer .P) ≡ o → Fits (numbers (pass-with o))
+  unfolding numbers most-rows most-order most-shift
+  pass-fits none e = record { code = omega arith; file = omega arith; number = omega arith; at = omega arith }
+  pass-fits (some z) e = record {
+    code = omega arith;
+    file = omega arith;
+    number = omega arith;
+    at = omega (arith, degree-sum-most (c .problem) (c .answer .P) (valid .valid-problem) (valid .valid-answer .basis) z e);
+  }
+
   by-rank-fits : Fits (numbers (by-rank c))
-  unfolding by-rank numbers most-rows most-order most-shift
+  unfolding by-rank numbers
   by-rank-fits =
-      cond-cases (rank-below (c .problem) (c .answer .P) (c .answer .C)) low-rank (passed (natural (degree-sum (c .problem) (c .answer .P))))
+      cond-cases (rank-below (c .problem) (c .answer .P) (c .answer .C)) low-rank (pass-with (degree-sum (c .problem) (c .answer .P)))
       (λ v. Fits (numbers v))
       (λ t. record { code = omega arith; file = omega arith; number = omega arith; at = omega arith })
-      (λ t. record {
-        code = omega arith;
-        file = omega arith;
-        number = omega arith;
-        at = omega (arith, degree-sum-most (c .problem) (c .answer .P) (valid .valid-problem) (valid .valid-answer .basis));
-      })
+      (λ t. pass-fits (degree-sum (c .problem) (c .answer .P)) refl)
 
   by-product-fits : Fits (numbers (by-product c))
   unfolding by-product numbers most-rows

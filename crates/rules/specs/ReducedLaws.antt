@@ -1,104 +1,90 @@
 -- What condition 1 says, and what it says of Δ: the entries obey the row degrees, so that the leading matrix decides the degree of the
 -- determinant.
---   largest-above, leading-power-natural, entries-at-most      the entries obey the row degrees
---   reduced-iff, zero-row-not-reduced                          condition 1
---   degree-sum-natural                                         Δ is the degree of the determinant
+--   leading-power-natural, degrees, entries-at-most, leading-by-degrees      the entries obey the row degrees
+--   reduced-iff, zero-row-not-reduced, no-degree-not-reduced                 condition 1
+--   reduced-degrees, degree-sum-is, degree-sum-natural                       the rows of a reduced P have degrees, and Δ is the
+--                                                                            degree of the determinant
 use mathlib.Core.Path.{_≡_, refl, sym, ap, subst, _∙_}
 use mathlib.Core.Logic.{_≢_, _↔_, Iff·trans, Iff·not}
-use mathlib.Core.Bool.{Bool, true, false, cond, not, true≢false}
+use mathlib.Core.Bool.{true, false, true≢false}
 use mathlib.Core.List.{List, [], _∷_}
-use Prim.Native.Nat.{ℕ, zero, suc, pred, _+_, _-_, _≤_, _<_, zero-le}
-use native.Mathlib.Nat.{le-of-suc-le-suc, not-suc-le-zero, suc-pred-eq-of-pos, le-of-lt, le-refl}
+use mathlib.Core.Option.{Option, none, some, Option·getD}
+use Prim.Native.Nat.{ℕ, zero, suc, _+_, _≤_, _<_}
 use native.Mathlib.Omega.{arith}
-use lib.Dec.{T, leb→le, le→leb, nleb→lt}
-use lib.IntN.{ℤ, pos, negsuc, negℤ, _+ℤ_, _-ℤ_, +ℤ-idr, +ℤ-idl, +ℤ-invl, +ℤ-assoc, negℤ-+ℤ, -ℤ-+ℤ-cancel}
-use lib.Signed.{leZ}
+use lib.IntN.{ℤ, pos, _+ℤ_, _-ℤ_}
 use lib.ListN.{length, getD}
 use Rattle.algebra.specs.Solver.{v0, v1, v2, _⊞_, ⊟_, ring}
 use Rattle.algebra.specs.Integer.{Integers}
 use Rattle.algebra.specs.Residue.{K, red}
-use Rattle.algebra.specs.Series.{series-ext}
 use Rattle.algebra.specs.Polynomial.{Below}
-use Rattle.algebra.specs.Matrix.{unit, unit-diagonal, unit-vmul}
-use Rattle.algebra.specs.Det.{det}
-use Rattle.algebra.specs.Adjugate.{kernel-times-det}
-use Rattle.algebra.specs.Degree.{AtMost, EntriesAtMost, coefficient, coefficient-zero, degree-of-det}
+use Rattle.algebra.specs.Det.{det, det-local}
+use Rattle.algebra.specs.Adjugate.{det-zero-row}
+use Rattle.algebra.specs.Sum.{sum}
+use Rattle.algebra.specs.Degree.{AtMost, EntriesAtMost, at-most-zeros, coefficient, coefficient-zeros, leading, degree-of-det}
 use Rattle.algebra.specs.PolyMatrix.{entries}
 use Rattle.rules.specs.Claim.{Problem}
 use Rattle.rules.specs.Matrices.{shift, at, matrix-P}
-use Rattle.rules.specs.Conditions.{degree-of, maxZ, largest, row-degree-of, row-degree, leading-matrix, reduced, determinant, degree-sum-of, degree-sum}
+use Rattle.rules.specs.Conditions.{shifted-degree-of, row-degree-of, row-degree, leading-coefficient, leading-matrix, reduced, determinant, less, degree-sum-of, degree-sum}
 use Rattle.rules.specs.BoolLaws.{false-iff, not-iff}
 use Rattle.rules.specs.SearchLaws.{is-zero-iff}
-
--- THE LARGEST
-
--- What is not below a is a and a natural number more.
-above : (a b : ℤ) → T (leZ a b) → (k : ℕ) × (b ≡ a +ℤ pos k)
-above (pos a) (pos b) t = (b - a, ap pos (omega (arith, leb→le a b t)))
-above (pos a) (negsuc b) t = absurd t
-above (negsuc a) (pos b) t =
-    (suc a + b, sym (sym (+ℤ-assoc (negsuc a) (pos (suc a)) (pos b)) ∙ ap (λ x. x +ℤ pos b) (+ℤ-invl (pos (suc a))) ∙ +ℤ-idl (pos b)))
-above (negsuc a) (negsuc b) t =
-    let k : ℕ = a - b in
-    let apart : suc a ≡ suc b + k = omega (arith, leb→le b a t) in
-    let lower : negsuc a ≡ negsuc b -ℤ pos k = ap (λ n. negℤ (pos n)) apart ∙ negℤ-+ℤ (pos (suc b)) (pos k) in
-    (k, sym (ap (λ x. x +ℤ pos k) lower ∙ -ℤ-+ℤ-cancel (negsuc b) (pos k)))
-
-total : (a b : ℤ) → leZ a b ≡ false → T (leZ b a)
-total (pos a) (pos b) e = le→leb b a (le-of-lt (nleb→lt a b (subst (λ x. T (not x)) (sym e) tt)))
-total (pos a) (negsuc b) e = tt
-total (negsuc a) (pos b) e = absurd (true≢false e)
-total (negsuc a) (negsuc b) e = le→leb a b (le-of-lt (nleb→lt b a (subst (λ x. T (not x)) (sym e) tt)))
-
-max-above-left : (a b : ℤ) → (k : ℕ) × (maxZ a b ≡ a +ℤ pos k)
-max-above-left a b = go (leZ a b) refl
-  where
-    go : (t : Bool) → leZ a b ≡ t → (k : ℕ) × (cond t b a ≡ a +ℤ pos k)
-    go true e = above a b (subst T (sym e) tt)
-    go false e = (zero, sym (+ℤ-idr a))
-
-max-above-right : (a b : ℤ) → (k : ℕ) × (maxZ a b ≡ b +ℤ pos k)
-max-above-right a b = go (leZ a b) refl
-  where
-    go : (t : Bool) → leZ a b ≡ t → (k : ℕ) × (cond t b a ≡ b +ℤ pos k)
-    go true e = (zero, sym (+ℤ-idr b))
-    go false e = above b a (total a b e)
-
--- The largest of f 0, …, f n is each of them and a natural number more.
-pub largest-above : (n : ℕ) (f : ℕ → ℤ) (j : ℕ) → j < suc n → (k : ℕ) × (largest n f ≡ f j +ℤ pos k)
-unfolding largest
-largest-above zero f zero h = (zero, sym (+ℤ-idr (f zero)))
-largest-above zero f (suc j) h = absurd (not-suc-le-zero (le-of-suc-le-suc h))
-largest-above (suc n) f zero h = max-above-left (f zero) (largest n (λ j. f (suc j)))
-largest-above (suc n) f (suc j) h =
-    let (k, e) = largest-above n (λ j. f (suc j)) j (le-of-suc-le-suc h) in
-    let (l, g) = max-above-right (f zero) (largest n (λ j. f (suc j))) in
-    (k + l, g ∙ ap (λ x. x +ℤ pos l) e ∙ +ℤ-assoc (f (suc j)) (pos k) (pos l))
-
--- An entry has no coefficient above its degree.
-pub length-degree : (n : ℕ) → n ≤ suc (degree-of n)
-unfolding degree-of
-length-degree zero = zero-le
-length-degree (suc n) = le-refl (suc n)
+use Rattle.rules.specs.DegreeLaws.{largest-above, largest-none, total-is, shifted-some, shifted-none}
 
 module _ (b : Problem) (P : List (List (List ℕ))) where
-  -- The power at which an entry has its leading coefficient is a natural number, and the entry's degree is not above it.
-  pub leading-power-natural : (i j : ℕ) → j < b .m → (d : ℕ) × (row-degree b P i -ℤ shift b j ≡ pos d) × (degree-of (length (at P i j)) ≤ d)
+  -- The power at which an entry other than 0 has its leading coefficient is a natural number, and the entry's degree is not above it. Of
+  -- a zero entry the power may be negative.
+  pub leading-power-natural : (i j d : ℕ) (r : ℤ) → row-degree b P i ≡ some r → j < b .m → length (at P i j) ≡ suc d
+      → (e : ℕ) × (r -ℤ shift b j ≡ pos e) × (d ≤ e)
   unfolding row-degree-of
-  leading-power-natural i j h =
-      let f : ℕ → ℤ = λ j. pos (degree-of (length (at P i j))) +ℤ shift b j in
-      let (k, e) = largest-above (pred (b .m)) f j (subst (λ x. j < x) (sym (suc-pred-eq-of-pos (omega arith))) h) in (
-        degree-of (length (at P i j)) + k,
-        ap (λ x. x -ℤ shift b j) e ∙ ring Integers (pos (degree-of (length (at P i j))) ∷ shift b j ∷ pos k ∷ []) (v0 ⊞ v1 ⊞ v2 ⊞ ⊟ v1) (v0 ⊞ v2) refl,
+  leading-power-natural i j d r e h l =
+      let (k, over) = largest-above (b .m) (λ j. shifted-degree-of (length (at P i j)) (shift b j)) r e j (pos d +ℤ shift b j) h
+      (ap (λ n. shifted-degree-of n (shift b j)) l ∙ shifted-some d (shift b j)) in (
+        d + k,
+        ap (λ x. x -ℤ shift b j) over ∙ ring Integers (pos d ∷ shift b j ∷ pos k ∷ []) (v0 ⊞ v1 ⊞ v2 ⊞ ⊟ v1) (v0 ⊞ v2) refl,
         omega arith,
       )
 
+  -- A zero entry is the polynomial 0.
+  zero-entry : (i j : ℕ) → length (at P i j) ≡ 0 → (k : ℕ) → matrix-P b P i j .series k ≡ K (b .p) .𝟘
+  zero-entry i j l k = matrix-P b P i j .below k (omega (arith, l))
+
+  -- A row that has no degree has zero entries alone.
+  pub no-degree-zero : (i j : ℕ) → row-degree b P i ≡ none → j < b .m → (k : ℕ) → matrix-P b P i j .series k ≡ K (b .p) .𝟘
+  unfolding row-degree-of
+  no-degree-zero i j e h =
+      zero-entry i j (shifted-none _ (shift b j) (largest-none (b .m) (λ j. shifted-degree-of (length (at P i j)) (shift b j)) e j h))
+
   -- The degree of each entry is at most its row's degree less its column's shift.
-  pub entries-at-most : EntriesAtMost (K (b .p)) (b .m) (b .m) (row-degree b P) (shift b) (entries (K (b .p)) (matrix-P b P))
+  pub entry-at-most : (i j : ℕ) (r : ℤ) → row-degree b P i ≡ some r → j < b .m → AtMost (K (b .p)) (r -ℤ shift b j) (matrix-P b P i j .series)
   unfolding AtMost
-  entries-at-most i j hi hj =
-      let (d, e, le) = leading-power-natural i j hj in
-      subst (λ x. AtMost (K (b .p)) x (matrix-P b P i j .series)) (sym e) (λ k above. matrix-P b P i j .below k (omega (arith, length-degree (length (at P i j)))))
+  entry-at-most i j r e h = by (length (at P i j)) refl
+    where
+      by : (n : ℕ) → length (at P i j) ≡ n → AtMost (K (b .p)) (r -ℤ shift b j) (matrix-P b P i j .series)
+      by zero l = at-most-zeros (K (b .p)) (r -ℤ shift b j) (matrix-P b P i j .series) (zero-entry i j l)
+      by (suc d) l =
+          let (f, power, le) = leading-power-natural i j d r e h l in
+          subst (λ x. AtMost (K (b .p)) x (matrix-P b P i j .series)) (sym power) (λ k above. matrix-P b P i j .below k (omega (arith, l)))
+
+  -- The row degrees as integers, 0 for a row that has none: of that row every entry is 0, whatever its degree.
+  abbrev pub degrees : ℕ → ℤ
+  degrees i = Option·getD (row-degree b P i) (pos 0)
+
+  pub entries-at-most : EntriesAtMost (K (b .p)) (b .m) (b .m) degrees (shift b) (entries (K (b .p)) (matrix-P b P))
+  entries-at-most i j hi hj = by (row-degree b P i) refl
+    where
+      by : (o : Option ℤ) → row-degree b P i ≡ o → AtMost (K (b .p)) (Option·getD o (pos 0) -ℤ shift b j) (matrix-P b P i j .series)
+      by none e = at-most-zeros (K (b .p)) (pos 0 -ℤ shift b j) (matrix-P b P i j .series) (no-degree-zero i j e hj)
+      by (some r) e = entry-at-most i j r e hj
+
+  -- The leading matrix is the theory's for these degrees.
+  pub leading-by-degrees : (i j : ℕ) → i < b .m → j < b .m
+      → leading-matrix b P i j ≡ leading (K (b .p)) degrees (shift b) (entries (K (b .p)) (matrix-P b P)) i j
+  leading-by-degrees i j hi hj = by (row-degree b P i) refl
+    where
+      by : (o : Option ℤ) → row-degree b P i ≡ o
+          → leading-coefficient (b .p) o (shift b j) (matrix-P b P i j .series)
+          ≡ coefficient (K (b .p)) (Option·getD o (pos 0) -ℤ shift b j) (matrix-P b P i j .series)
+      by none e = sym (coefficient-zeros (K (b .p)) (pos 0 -ℤ shift b j) (matrix-P b P i j .series) (no-degree-zero i j e hj))
+      by (some r) e = refl
 
   -- Condition 1: "P is reduced if the leading matrix has a determinant other than 0".
   pub reduced-iff : (reduced b P ≡ true) ↔ (det (K (b .p)) (b .m) (leading-matrix b P) ≢ K (b .p) .𝟘)
@@ -107,21 +93,33 @@ module _ (b : Problem) (P : List (List (List ℕ))) where
 
   -- "A zero row is never reduced."
   pub zero-row-not-reduced : (i : ℕ) → i < b .m → ((j k : ℕ) → j < b .m → red (b .p) (getD (at P i j) k 0) ≡ K (b .p) .𝟘) → reduced b P ≡ false
-  zero-row-not-reduced i hi zeros = false-iff (reduced b P) .1 (λ r. reduced-iff .0 r singular)
+  zero-row-not-reduced i hi zeros =
+      false-iff (reduced b P) .1 (λ r. reduced-iff .0 r (det-zero-row (K (b .p)) (b .m) (leading-matrix b P) i hi (λ j hj.
+      leading-by-degrees i j hi hj
+      ∙ coefficient-zeros (K (b .p)) (degrees i -ℤ shift b j) (matrix-P b P i j .series) (λ k. zeros j k hj))))
+
+  -- A row that has no degree is a zero row.
+  pub no-degree-not-reduced : (i : ℕ) → i < b .m → row-degree b P i ≡ none → reduced b P ≡ false
+  no-degree-not-reduced i hi e = zero-row-not-reduced i hi (λ j k hj. no-degree-zero i j e hj k)
+
+  -- So every row of a reduced P has a degree.
+  pub reduced-degrees : reduced b P ≡ true → (i : ℕ) → i < b .m → row-degree b P i ≡ some (degrees i)
+  reduced-degrees r i hi = by (row-degree b P i) refl
     where
-      singular : det (K (b .p)) (b .m) (leading-matrix b P) ≡ K (b .p) .𝟘
-      singular =
-          sym (K (b .p) .mul-one (det (K (b .p)) (b .m) (leading-matrix b P)))
-          ∙ ap (λ x. K (b .p) ._⊗_ (det (K (b .p)) (b .m) (leading-matrix b P)) x) (sym (unit-diagonal (K (b .p)) i))
-          ∙ kernel-times-det (K (b .p)) (b .m) (leading-matrix b P) (unit (K (b .p)) i)
-          (λ j hj. unit-vmul (K (b .p)) (b .m) i (leading-matrix b P) hi j
-          ∙ ap (coefficient (K (b .p)) (row-degree b P i -ℤ shift b j)) (series-ext (K (b .p)) (λ k. zeros j k hj))
-          ∙ coefficient-zero (K (b .p)) (row-degree b P i -ℤ shift b j))
-          i hi
+      by : (o : Option ℤ) → row-degree b P i ≡ o → o ≡ some (Option·getD o (pos 0))
+      by none e = absurd (true≢false (sym r ∙ no-degree-not-reduced i hi e))
+      by (some d) e = refl
+
+  -- Where the rows have degrees, their sum less that of the shifts is the degree sum.
+  pub degree-sum-is : (r : ℕ → ℤ) → ((i : ℕ) → i < b .m → row-degree b P i ≡ some (r i))
+      → degree-sum b P ≡ some (sum Integers (b .m) r -ℤ sum Integers (b .m) (shift b))
+  unfolding degree-sum-of
+  degree-sum-is r h = rw (total-is (b .m) (row-degree b P) r h, degree-sum-of)
 
   -- Of a reduced P the degree sum is a natural number, and the degree of the determinant.
   pub degree-sum-natural : reduced b P ≡ true
-      → (d : ℕ) × (degree-sum b P ≡ pos d) × Below (K (b .p)) (suc d) (determinant b P) × (determinant b P d ≢ K (b .p) .𝟘)
-  unfolding degree-sum-of
+      → (d : ℕ) × (degree-sum b P ≡ some (pos d)) × Below (K (b .p)) (suc d) (determinant b P) × (determinant b P d ≢ K (b .p) .𝟘)
   degree-sum-natural r =
-      degree-of-det (K (b .p)) (b .m) (row-degree b P) (shift b) (entries (K (b .p)) (matrix-P b P)) entries-at-most (reduced-iff .0 r)
+      let (d, same, below, ne) = degree-of-det (K (b .p)) (b .m) degrees (shift b) (entries (K (b .p)) (matrix-P b P)) entries-at-most
+      (λ z. reduced-iff .0 r (det-local (K (b .p)) (b .m) _ _ leading-by-degrees ∙ z)) in
+      (d, degree-sum-is degrees (reduced-degrees r) ∙ ap some same, below, ne)

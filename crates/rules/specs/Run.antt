@@ -15,8 +15,8 @@ use Rattle.rules.specs.Files.{no-divisor, is-prime, two's-complement, PR
 use Rattle.rules.specs.Files.{answer-reader, basis-reader, read-problem, read-both}
 use Rattle.rules.specs.Writer.{bytes, write-each, unsigned, write-PR, write-OR, write-SH, write-FC, write-PE, write-CE, write-basis}
 use Rattle.rules.specs.Matrices.{product}
-use Rattle.rules.specs.Conditions.{some-below, degree-of, largest, row-degree-of, reduced, sum-below, max-below, determinant-bound, count-nonzero}
-use Rattle.rules.specs.Conditions.{monomial-determinant, degree-sum-of, low-fault, order-fault, first-below, first-place, some-constants, combined-to-zero}
+use Rattle.rules.specs.Conditions.{some-below, degree-of, shifted-degree-of, largest, row-degree-of, reduced, sum-below, max-below, determinant-bound, count-nonzero}
+use Rattle.rules.specs.Conditions.{monomial-determinant, total, degree-sum-of, low-fault, order-fault, first-below, first-place, some-constants, combined-to-zero}
 use Rattle.rules.specs.Conditions.{rank-below}
 use Rattle.rules.specs.Writer.{write-problem, write-answer}
 use Rattle.rules.specs.Verdict.{Numbers, numbers, verdict, judge-claim, by-product, by-rank}
@@ -29,7 +29,7 @@ unfoldable pub run-verdict : List ℕ → List ℕ → Numbers
 unfolding sign sum skip red convolve constant cons beside vmul mmul det coefficient largest-prime most-rows most-order most-shift
     most-length next number-at field each end no-divisor is-prime two's-complement PR OR SH FC problem-reader coefficient-test PE CE
     entries-reader answer-reader basis-reader read-problem read-both bytes write-each unsigned write-PR write-OR write-SH write-FC
-    write-PE write-CE write-basis product some-below degree-of largest row-degree-of reduced sum-below max-below determinant-bound count-nonzero
+    write-PE write-CE write-basis product some-below degree-of shifted-degree-of largest row-degree-of total reduced sum-below max-below determinant-bound count-nonzero
     monomial-determinant degree-sum-of low-fault order-fault first-below first-place some-constants combined-to-zero rank-below write-problem
     write-answer numbers verdict judge-claim by-product by-rank
 run-verdict s t = numbers (verdict s t)

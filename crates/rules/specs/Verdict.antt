@@ -4,7 +4,7 @@
 --   packed                   the one number that the C host gets
 use mathlib.Core.Bool.{true, false, cond}
 use mathlib.Core.List.{List}
-use mathlib.Core.Option.{none, some}
+use mathlib.Core.Option.{Option, none, some}
 use Prim.Native.Nat.{ℕ, _+_, _*_}
 use lib.IntN.{ℤ, pos, negsuc}
 use Rattle.rules.specs.Claim.{Claim}
@@ -55,9 +55,14 @@ abbrev pub natural : ℤ → ℕ
 natural (pos d) = d
 natural (negsuc d) = 0
 
+-- A pass with Δ. "A row with no entry other than zero has no row degree and the verdict is 9" (document 02, L2): then there is no Δ.
+abbrev pub pass-with : Option ℤ → Verdict
+pass-with none = not-reduced
+pass-with (some sum) = passed (natural sum)
+
 -- Condition 4 decides what is left after the others.
 unfoldable pub by-rank : Claim → Verdict
-by-rank c = cond (rank-below (c .problem) (c .answer .P) (c .answer .C)) low-rank (passed (natural (degree-sum (c .problem) (c .answer .P))))
+by-rank c = cond (rank-below (c .problem) (c .answer .P) (c .answer .C)) low-rank (pass-with (degree-sum (c .problem) (c .answer .P)))
 
 -- "All entries are tried for 11 before any for 12."
 unfoldable pub by-product : Claim → Verdict

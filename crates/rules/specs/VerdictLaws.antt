@@ -8,11 +8,12 @@ use mathlib.Core.List.{List}
 use mathlib.Core.Option.{Option, none, some}
 use Prim.Native.Nat.{ℕ, _≤_, _<_}
 use native.Mathlib.Omega.{arith}
+use lib.IntN.{ℤ}
 use Rattle.rules.specs.Claim.{Problem, Claim}
 use Rattle.rules.specs.Reader.{Place, Refusal, Result, refused, got}
 use Rattle.rules.specs.Files.{read-claim}
 use Rattle.rules.specs.Conditions.{reduced, monomial-determinant, degree-sum, rank-below, low-fault, order-fault, first-place}
-use Rattle.rules.specs.Verdict.{Verdict, passed, unread, not-reduced, not-monomial, below-order, at-order, low-rank, no-room, written, numbers, natural}
+use Rattle.rules.specs.Verdict.{Verdict, passed, unread, not-reduced, not-monomial, below-order, at-order, low-rank, no-room, written, numbers, pass-with}
 use Rattle.rules.specs.Verdict.{by-rank, by-product, judge-claim, verdict}
 use Rattle.rules.specs.BoolLaws.{cond-cases}
 use Rattle.rules.specs.SearchLaws.{first-place-some}
@@ -42,12 +43,16 @@ Judged b low-rank = Unit {0}
 Judged b (no-room k) = ⊥
 Judged b (written k) = ⊥
 
+pass-judged : (b : Problem) (o : Option ℤ) → Judged b (pass-with o)
+pass-judged b none = tt
+pass-judged b (some z) = tt
+
 module _ (c : Claim) where
   by-rank-judged : Judged (c .problem) (by-rank c)
   unfolding by-rank
   by-rank-judged =
-      cond-cases (rank-below (c .problem) (c .answer .P) (c .answer .C)) low-rank (passed (natural (degree-sum (c .problem) (c .answer .P))))
-      (Judged (c .problem)) (λ t. tt) (λ t. tt)
+      cond-cases (rank-below (c .problem) (c .answer .P) (c .answer .C)) low-rank (pass-with (degree-sum (c .problem) (c .answer .P)))
+      (Judged (c .problem)) (λ t. tt) (λ t. pass-judged (c .problem) (degree-sum (c .problem) (c .answer .P)))
 
   by-product-judged : Judged (c .problem) (by-product c)
   unfolding by-product

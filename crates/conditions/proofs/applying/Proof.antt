@@ -16,7 +16,7 @@ abbrev held : tie.Start → Arrays
 held s = arrays (s .args .orders) (s .args .shifts) (now (s .args .f)) (now (s .args .lengths)) (now (s .args .entries)) (now (s .args .c))
 
 not-reduced-requires : tie.Need-not-reduced-requires
-not-reduced-requires c κs = let pre = c .before .pre in ((pre .prime, pre .factors .entry-below), (pre .sized, (pre .rows-least, pre .rows-most)))
+not-reduced-requires c κs = let pre = c .before .pre in ((pre .prime, pre .factors .entry-below), (pre .sized, pre .rows-most))
 
 fault-if-requires : tie.Need-fault-if-requires
 fault-if-requires c κs = search needs

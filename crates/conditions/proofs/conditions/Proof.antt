@@ -1,12 +1,14 @@
 use borrow.Author.Needs.{needs}
-use mathlib.Core.Path.{ap, subst, _∙_}
+use mathlib.Core.Path.{_≡_, sym, ap, subst, _∙_}
+use mathlib.Core.Option.{none, some}
 use mir.Syntax.{w32}
-use mir.ValLaws.{toZ-ofZ}
+use mir.Val.{toZ, ofZ}
 use Prim.Native.Nat.{_-_}
 use native.Mathlib.Omega.{arith}
 use denote.Ref.{now}
-use Rattle.rules.specs.Verdict.{natural}
+use Rattle.rules.specs.Verdict.{passed, natural}
 use Rattle.verdict.specs.Meant.{meant}
+use Rattle.degrees.specs.Degree.{degree}
 use Rattle.conditions.specs.Held.{Arrays, Judged, arrays}
 use Rattle.conditions.specs.Applies.{applies}
 use Rattle.conditions.specs.Findings.{finding, Tried, none-tried, tried-fault, tried-one, all-tried}
@@ -64,16 +66,31 @@ loop-again c =
 degree-sum-requires : tie.Need-degree-sum-requires Inv-loop μ-loop
 degree-sum-requires c κs = search needs
 
-not-negative-requires : tie.Need-not-negative-requires Inv-loop μ-loop
-not-negative-requires c κs = search needs
+enum-known-sum : tie.Need-enum-known-sum Inv-loop μ-loop
+enum-known-sum c = search needs
+
+enum-told-2 : tie.Need-enum-told-2 Inv-loop μ-loop
+enum-told-2 c = search needs
 
 returns-2 : tie.Need-returns-2 Inv-loop μ-loop
 returns-2 c =
-    let s = c .before .before .before .before in
-    let l = c .before .before .before .loop in
-    let sum = c .before .degree-sum in
-    all-tried (s .args .p) (s .args .m) (s .args .n) (held s) (l .code) (sum .result) (c .not-negative .result) (omega arith) (l .inv) (sum .ensures)
-    (c .not-negative .ensures ∙ ap natural (toZ-ofZ w32 (sum .result) (record { sfits = sum .ok })))
+    let s = c .before .before .before .before .before in
+    let l = c .before .before .before .before .loop in
+    all-tried (s .args .p) (s .args .m) (s .args .n) (held s) (l .code) none (omega arith) (l .inv)
+    (sym (ap degree (c .enum-told2 .given .1)) ∙ c .before .before .degree-sum .ensures)
+
+not-negative-requires : tie.Need-not-negative-requires Inv-loop μ-loop
+not-negative-requires c κs = search needs
+
+returns-3 : tie.Need-returns-3 Inv-loop μ-loop
+returns-3 c =
+    let s = c .before .before .before .before .before .before .before in
+    let l = c .before .before .before .before .before .before .loop in
+    let sum = c .before .before .sum .given in
+    let sum-back : toZ w32 (ofZ w32 (sum .0 .0)) ≡ sum .0 .0 = search needs in
+    λ os ss F P C h. ap passed (c .not-negative .ensures ∙ ap natural sum-back)
+    ∙ all-tried (s .args .p) (s .args .m) (s .args .n) (held s) (l .code) (some (sum .0 .0)) (omega arith) (l .inv)
+    (sym (ap degree (sum .1)) ∙ c .before .before .before .before .degree-sum .ensures) os ss F P C h
 
 pub conditions-spec : {M : Type 1} → statement M
 conditions-spec =
@@ -90,5 +107,8 @@ conditions-spec =
     loop-less
     loop-again
     degree-sum-requires
+    enum-known-sum
+    enum-told-2
+    returns-2
     not-negative-requires
-    returns-2)
+    returns-3)

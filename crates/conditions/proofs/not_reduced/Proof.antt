@@ -24,7 +24,7 @@ singular-requires c κs =
     let a = start .args in
     let small : (i j : ℕ) → getD (getD (c .leading-matrix .result) i []) j 0 < a .p = λ i j. subst (λ (l : List (List ℕ)). getD (getD l i []) j 0 < a .p) (sym (c .leading-matrix .ensures))
     (leading-array-below (a .p) (now (a .entries)) (now (a .lengths)) (a .shifts) (a .m) (omega (arith, start .pre .0 .0 .two-le)) (start .pre .0 .1) i j) in
-    (start .pre .0 .0, (start .pre .1 .1 .1, small))
+    (start .pre .0 .0, (start .pre .1 .1, small))
 
 returns : tie.Need-returns
 returns c =

@@ -1,12 +1,17 @@
 use mathlib.Core.Path.{_≡_, sym, ap, ap₂, _∙_}
+use mathlib.Core.Option.{Option, some}
 use native.Mathlib.Omega.{arith}
 use borrow.Author.Needs.{needs}
 use lib.IntN.{ℤ, natAbs, _+ℤ_, _-ℤ_}
 use Prim.Native.Nat.{ℕ, _-_, _≤_}
 use mir.Syntax.{w32}
 use mir.Val.{toZ, ofZ}
+use Rattle.rules.specs.Conditions.{plus, total, less, row-degree-of}
 use Rattle.rules.specs.Sizes.{most-rows, most-length, most-shift}
-use Rattle.degrees.specs.Degrees.{excess, sum-from, sum-from-end, sum-from-step, sum-from-zero, degree-sum-excess, excess-size, sum-from-size}
+use Rattle.layout.specs.Flat.{length-at, shift-at}
+use Rattle.degrees.specs.Degree.{degree}
+use Rattle.degrees.specs.From.{from-zero}
+use Rattle.degrees.specs.Degrees.{excess, excess-none, excess-size, total-from, total-from-end, total-from-step, total-from-size, total-excess}
 use Rattle.degrees.proofs.Signed.{back}
 use Rattle.degrees.proofs.Degrees.{shift-back, difference-small}
 use Rattle.degrees.proofs.degree_sum.Statement.{statement}
@@ -14,19 +19,31 @@ use Rattle.degrees.proofs.degree_sum.Tie as tie
 
 -- The sum of the row degrees less the shifts, from i on.
 abbrev Inv-loop : tie.InvT-loop
-Inv-loop lengths m shifts i₀ sum₀ i sum = (i ≤ m) × (toZ w32 sum ≡ sum-from (excess lengths shifts m) m i)
+Inv-loop lengths m shifts i₀ sum₀ i sum = (i ≤ m) × (some (toZ w32 sum) ≡ total-from (excess lengths shifts m) m i)
 
 abbrev μ-loop : tie.MeasureT-loop
 μ-loop lengths m shifts i₀ sum₀ i sum = i
 
 loop-holds : tie.Need-loop-holds Inv-loop μ-loop
-loop-holds c = (search needs, sym (sum-from-end (excess (c .args .lengths .now) (c .args .t2) (c .args .m)) (c .args .m)))
+loop-holds c = (search needs, sym (total-from-end (excess (c .args .lengths .now) (c .args .t2) (c .args .m)) (c .args .m)))
 
 sub-i : tie.Need-sub-i Inv-loop μ-loop
 sub-i c = search needs
 
 row-degree-requires : tie.Need-row-degree-requires Inv-loop μ-loop
 row-degree-requires c κs = search needs
+
+enum-known-row : tie.Need-enum-known-row Inv-loop μ-loop
+enum-known-row c = search needs
+
+enum-told : tie.Need-enum-told Inv-loop μ-loop
+enum-told c = search needs
+
+returns : tie.Need-returns Inv-loop μ-loop
+returns c =
+    let s = c .before .before .before .before .before in
+    sym (excess-none (s .args .lengths .now) (s .args .t2) (s .args .m) (c .before .before .before .before .loop .i - 1) (omega arith)
+    (sym (c .before .before .row-degree .ensures) ∙ ap degree (c .enum-told .given .1)))
 
 mul-minus : tie.Need-mul-minus Inv-loop μ-loop
 unfolding most-rows
@@ -36,36 +53,46 @@ array-copy-out-minus : tie.Need-array-copy-out-minus Inv-loop μ-loop
 unfolding most-rows
 array-copy-out-minus c = search needs
 
+-- The row's number, what it was called with, and its degree as it is read back.
+abbrev start : tie.After-minus-arg Inv-loop μ-loop → tie.Start Inv-loop μ-loop
+start c = c .before .before .before .before .before .before .before
+
+abbrev number : tie.After-minus-arg Inv-loop μ-loop → ℕ
+number c = c .before .before .before .before .before .before .loop .i - 1
+
+abbrev row : tie.After-minus-arg Inv-loop μ-loop → ℤ
+row c = toZ w32 (ofZ w32 (c .before .before .row .given .0 .0))
+
+row-is : (c : tie.After-minus-arg Inv-loop μ-loop)
+    → row-degree-of (start c .args .m) (length-at (start c .args .lengths .now) (number c)) (shift-at (start c .args .t2)) ≡ some (row c)
+row-is c =
+    let row-back : row c ≡ c .before .before .row .given .0 .0 = search needs in
+    sym (c .before .before .before .before .row-degree .ensures) ∙ ap degree (c .before .before .row .given .1) ∙ ap some (sym row-back)
+
 minus-requires : tie.Need-minus-requires Inv-loop μ-loop
 minus-requires c κs =
-    let s = c .before .before .before .before in
-    difference-small (s .args .lengths .now) (s .args .t2) (s .pre .0) (s .args .m) (c .before .before .before .loop .i - 1) (c .before .before .before .loop .i - 1)
-    (toZ w32 (ofZ w32 (c .before .row-degree .result)))
-    (back (record { sfits = c .before .row-degree .ok }) ∙ c .before .row-degree .ensures)
+    difference-small (start c .args .lengths .now) (start c .args .t2) (start c .pre .0) (start c .args .m) (number c) (number c) (row c) (row-is c)
 
 -- What is added in a turn.
 added : (c : tie.After-minus Inv-loop μ-loop)
-    → toZ w32 (ofZ w32 (c .minus .result))
-    ≡ excess (c .before .before .before .before .before .args .lengths .now) (c .before .before .before .before .before .args .t2)
-    (c .before .before .before .before .before .args .m) (c .before .before .before .before .loop .i - 1)
+    → excess (start (c .before) .args .lengths .now) (start (c .before) .args .t2) (start (c .before) .args .m) (number (c .before))
+    ≡ some (toZ w32 (ofZ w32 (c .minus .result)))
 added c =
-    let s = c .before .before .before .before .before in
-    back (record { sfits = c .minus .ok })
+    let s = start (c .before) in
+    ap (λ o. less o (shift-at (s .args .t2) (number (c .before)))) (row-is (c .before))
+    ∙ ap some (sym (back (record { sfits = c .minus .ok })
     ∙ c .minus .ensures
-    ∙ ap₂ _-ℤ_ (back (record { sfits = c .before .before .row-degree .ok }) ∙ c .before .before .row-degree .ensures)
-    (shift-back (s .args .lengths .now) (s .args .t2) (s .pre .0) (c .before .before .before .before .loop .i - 1))
+    ∙ ap (λ z. row (c .before) -ℤ z) (shift-back (s .args .lengths .now) (s .args .t2) (s .pre .0) (number (c .before)))))
 
 plus-requires : tie.Need-plus-requires Inv-loop μ-loop
 unfolding most-rows most-length most-shift
 plus-requires c κs =
-    let s = c .before .before .before .before .before in
-    let at = c .before .before .before .before in
+    let s = start (c .before) in
+    let l = c .before .before .before .before .before .before .before .loop in
     omega (
       arith,
-      ap natAbs (added c),
-      excess-size (s .args .lengths .now) (s .args .t2) (s .pre .0) (s .args .m) (at .loop .i - 1),
-      ap natAbs (at .loop .inv .1),
-      sum-from-size (s .args .lengths .now) (s .args .t2) (s .pre .0) (s .args .m) (at .loop .i),
+      excess-size (s .args .lengths .now) (s .args .t2) (s .pre .0) (s .args .m) (number (c .before)) (toZ w32 (ofZ w32 (c .minus .result))) (added c),
+      total-from-size (s .args .lengths .now) (s .args .t2) (s .pre .0) (s .args .m) (l .i) (toZ w32 (l .sum)) (sym (l .inv .1)),
     )
 
 loop-less : tie.Need-loop-less Inv-loop μ-loop
@@ -73,23 +100,22 @@ loop-less c = search needs
 
 loop-again : tie.Need-loop-again Inv-loop μ-loop
 loop-again c =
-    let s = c .before .before .before .before .before .before in
-    let at = c .before .before .before .before .before in (
+    let s = start (c .before .before) in
+    let l = c .before .before .before .before .before .before .before .before .loop in (
       search needs,
-      back (record { sfits = c .plus .ok })
-          ∙ c .plus .ensures
-          ∙ ap₂ _+ℤ_ (added (c .before)) (at .loop .inv .1)
-          ∙ sum-from-step (excess (s .args .lengths .now) (s .args .t2) (s .args .m)) (s .args .m) (at .loop .i) (omega arith) (omega arith),
+      ap some (back (record { sfits = c .plus .ok }) ∙ c .plus .ensures)
+          ∙ ap₂ plus (sym (added (c .before))) (l .inv .1)
+          ∙ total-from-step (excess (s .args .lengths .now) (s .args .t2) (s .args .m)) (s .args .m) (l .i) (omega arith) (omega arith),
     )
 
-returns : tie.Need-returns Inv-loop μ-loop
-returns c =
+returns-2 : tie.Need-returns-2 Inv-loop μ-loop
+returns-2 c =
     let s = c .before .before in
-    let f : ℕ → ℤ = excess (s .args .lengths .now) (s .args .t2) (s .args .m) in
+    let f : ℕ → Option ℤ = excess (s .args .lengths .now) (s .args .t2) (s .args .m) in
     c .before .loop .inv .1
-    ∙ ap (sum-from f (s .args .m)) (omega arith)
-    ∙ sum-from-zero f (s .args .m)
-    ∙ degree-sum-excess (s .args .lengths .now) (s .args .t2) (s .args .m)
+    ∙ ap (total-from f (s .args .m)) (omega arith)
+    ∙ from-zero total f (s .args .m)
+    ∙ total-excess (s .args .lengths .now) (s .args .t2) (s .args .m)
 
 pub degree-sum-spec : {M : Type 1} → statement M
 degree-sum-spec =
@@ -100,10 +126,13 @@ degree-sum-spec =
     loop-holds
     sub-i
     row-degree-requires
+    enum-known-row
+    enum-told
+    returns
     mul-minus
     array-copy-out-minus
     minus-requires
     plus-requires
     loop-less
     loop-again
-    returns)
+    returns-2)

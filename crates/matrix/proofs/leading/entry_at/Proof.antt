@@ -1,24 +1,18 @@
 use mathlib.Core.Path.{_≡_, sym, ap, _∙_}
+use native.Mathlib.Nat.{le-refl}
 use native.Mathlib.Omega.{arith}
 use borrow.Author.Needs.{needs}
-use lib.IntN.{natAbs}
+use Prim.Native.Nat.{ℕ}
 use lib.ListN.{getD}
-use mir.Syntax.{w32, w64}
-use mir.Val.{toZ, ofZ}
 use Rattle.rules.specs.Sizes.{most-rows, most-length}
 use Rattle.layout.specs.Flat.{cell, entry-place, cell-at, cell-past}
-use Rattle.matrix.specs.Leading.{at-power, at-power-negative, at-power-natAbs}
-use Rattle.degrees.proofs.Signed.{back, below-zero-back, cast-fits}
+use Rattle.degrees.proofs.Signed.{back}
+use Rattle.matrix.specs.Leading.{exponent-of, at-power, at-exponent}
 use Rattle.matrix.proofs.leading.entry_at.Statement.{statement}
 use Rattle.matrix.proofs.leading.entry_at.Tie as tie
 
-returns : tie.Need-returns
-returns c =
-    let s = c .before in
-    sym (at-power-negative (s .args .power) (cell (s .args .entries .now) (s .args .i) (s .args .j)) (below-zero-back (s .fits .power) ∙ c .if1 .taken))
-
-cast-k : tie.Need-cast-k
-cast-k c = cast-fits w64 tt (c .before .fits .power) (c .if1 .left)
+exponent-requires : tie.Need-exponent-requires
+exponent-requires c κs = search needs
 
 entry-place-requires : tie.Need-entry-place-requires
 unfolding most-length
@@ -32,28 +26,31 @@ element-copy-out-result : tie.Need-element-copy-out-result
 unfolding most-rows most-length entry-place
 element-copy-out-result c = search needs
 
--- Where the power is not negative, the coefficient is that of the number that the cast gives.
-at-cast : (c : tie.Else1)
+-- The coefficient at the power is that at the number that is looked up.
+at-number : (c : tie.After-exponent)
     → at-power (c .before .args .power) (cell (c .before .args .entries .now) (c .before .args .i) (c .before .args .j))
-    ≡ cell (c .before .args .entries .now) (c .before .args .i) (c .before .args .j) (natAbs (toZ w32 (ofZ w32 (c .before .args .power))))
-at-cast c =
-    let s = c .before in
-    let f = cell (s .args .entries .now) (s .args .i) (s .args .j) in
-    at-power-natAbs (s .args .power) f (below-zero-back (s .fits .power) ∙ c .if1 .left) ∙ ap (λ z. f (natAbs z)) (sym (back (s .fits .power)))
+    ≡ cell (c .before .args .entries .now) (c .before .args .i) (c .before .args .j) (c .exponent .result)
+at-number c =
+    let a = c .before .args in
+    let f : ℕ → ℕ = cell (a .entries .now) (a .i) (a .j) in
+    at-exponent (a .power) f (cell-past (a .entries .now) (a .i) (a .j) most-length (le-refl most-length))
+    ∙ ap f (sym (c .exponent .ensures ∙ ap exponent-of (back (c .before .fits .power))))
+
+returns : tie.Need-returns
+unfolding most-length
+returns c =
+    let e = c .before .before .before in
+    let a = e .before .args in
+    sym (at-number e
+    ∙ cell-at (a .entries .now) (a .i) (a .j) (e .exponent .result) (omega arith)
+    ∙ ap (λ k. getD (a .entries .now) k 0) (sym (c .before .entry-place .ensures)))
 
 returns-2 : tie.Need-returns-2
 unfolding most-length
 returns-2 c =
-    let s = c .before .before .before .before in
-    sym (at-cast (c .before .before .before)
-    ∙ cell-at (s .args .entries .now) (s .args .i) (s .args .j) (natAbs (toZ w32 (ofZ w32 (s .args .power)))) (omega arith)
-    ∙ ap (λ k. getD (s .args .entries .now) k 0) (sym (c .before .entry-place .ensures)))
-
-returns-3 : tie.Need-returns-3
-unfolding most-length
-returns-3 c =
-    let s = c .before .before in
-    sym (at-cast (c .before) ∙ cell-past (s .args .entries .now) (s .args .i) (s .args .j) (natAbs (toZ w32 (ofZ w32 (s .args .power)))) (omega arith))
+    let e = c .before in
+    let a = e .before .args in
+    sym (at-number e ∙ cell-past (a .entries .now) (a .i) (a .j) (e .exponent .result) (omega arith))
 
 pub entry-at-spec : {M : Type 1} → statement M
-entry-at-spec = tie.close (tie.spec returns cast-k entry-place-requires mul-result element-copy-out-result returns-2 returns-3)
+entry-at-spec = tie.close (tie.spec exponent-requires entry-place-requires mul-result element-copy-out-result returns returns-2)

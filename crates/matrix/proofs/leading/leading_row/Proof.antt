@@ -1,29 +1,45 @@
-use mathlib.Core.Path.{_≡_, refl, ap, ap₂, _∙_}
+use mathlib.Core.Path.{_≡_, refl, sym, ap, _∙_}
+use mathlib.Core.Option.{some}
 use native.Mathlib.Omega.{arith}
 use borrow.Author.Needs.{needs}
-use lib.IntN.{_-ℤ_}
+use lib.IntN.{ℤ, _-ℤ_}
 use Prim.Native.Nat.{_-_, _≤_}
 use mir.Syntax.{w32}
 use mir.Val.{toZ, ofZ}
+use Rattle.rules.specs.Conditions.{row-degree-of}
 use Rattle.rules.specs.Sizes.{most-rows}
 use Rattle.rules.specs.Evidence.{table}
-use Rattle.layout.specs.Flat.{width, cell}
-use Rattle.matrix.specs.Fill.{RowFilled, filled-none, filled-more, filled-row}
-use Rattle.matrix.specs.Leading.{leading-number, at-power}
+use Rattle.layout.specs.Flat.{width, length-at, shift-at, cell}
+use Rattle.degrees.specs.Degree.{degree as degree-meant}
 use Rattle.degrees.proofs.Signed.{back}
 use Rattle.degrees.proofs.Degrees.{shift-back, difference-small}
+use Rattle.matrix.specs.Fill.{RowFilled, zero-row, row-of-zeros, filled-none, filled-more, filled-row}
+use Rattle.matrix.specs.Leading.{leading-number, leading-some, leading-none, at-power}
 use Rattle.matrix.proofs.leading.leading_row.Statement.{statement}
 use Rattle.matrix.proofs.leading.leading_row.Tie as tie
 
 abbrev Inv-loop : tie.InvT-loop
-Inv-loop entries lengths m i shifts degree row₀ j₀ row j =
-    (j ≤ m) × RowFilled j (leading-number entries lengths shifts m i) row
+Inv-loop entries lengths m i shifts row₀ degree j₀ row j = (j ≤ m) × RowFilled j (leading-number entries lengths shifts m i) row
 
 abbrev μ-loop : tie.MeasureT-loop
-μ-loop entries lengths m i shifts degree row₀ j₀ row j = m - j
+μ-loop entries lengths m i shifts row₀ degree j₀ row j = m - j
 
 row-degree-requires : tie.Need-row-degree-requires Inv-loop μ-loop
 row-degree-requires c κs = search needs
+
+enum-known-degree : tie.Need-enum-known-degree Inv-loop μ-loop
+enum-known-degree c = search needs
+
+enum-told : tie.Need-enum-told Inv-loop μ-loop
+enum-told c = search needs
+
+returns : tie.Need-returns Inv-loop μ-loop
+unfolding most-rows table zero-row
+returns c =
+    let s = c .before .before .before in
+    sym (row-of-zeros (s .args .m) (leading-number (s .args .entries .now) (s .args .lengths .now) (s .args .t3) (s .args .m) (s .args .i)) (λ j.
+    leading-none (s .args .entries .now) (s .args .lengths .now) (s .args .t3) (s .args .m) (s .args .i) j
+    (sym (c .before .before .row-degree .ensures) ∙ ap degree-meant (c .enum-told .given .1))))
 
 loop-holds : tie.Need-loop-holds Inv-loop μ-loop
 unfolding most-rows table
@@ -37,12 +53,24 @@ array-copy-out-minus : tie.Need-array-copy-out-minus Inv-loop μ-loop
 unfolding most-rows
 array-copy-out-minus c = search needs
 
+-- What the function was called with, and the row's degree as it is read back.
+abbrev start : tie.After-minus-arg Inv-loop μ-loop → tie.Start Inv-loop μ-loop
+start c = c .before .before .before .before .before .before .before
+
+abbrev row : tie.After-minus-arg Inv-loop μ-loop → ℤ
+row c = toZ w32 (ofZ w32 (c .before .before .before .before .degree .given .0 .0))
+
+row-is : (c : tie.After-minus-arg Inv-loop μ-loop)
+    → row-degree-of (start c .args .m) (length-at (start c .args .lengths .now) (start c .args .i)) (shift-at (start c .args .t3)) ≡ some (row c)
+row-is c =
+    let known = c .before .before .before .before .degree .given in
+    let row-back : row c ≡ known .0 .0 = search needs in
+    sym (c .before .before .before .before .before .before .row-degree .ensures) ∙ ap degree-meant (known .1) ∙ ap some (sym row-back)
+
 minus-requires : tie.Need-minus-requires Inv-loop μ-loop
 minus-requires c κs =
-    let s = c .before .before .before .before in
-    difference-small (s .args .lengths .now) (s .args .t3) (s .pre .0) (s .args .m) (s .args .i) (c .before .before .loop .j)
-    (toZ w32 (ofZ w32 (c .before .before .before .row-degree .result)))
-    (back (record { sfits = c .before .before .before .row-degree .ok }) ∙ c .before .before .before .row-degree .ensures)
+    let a = start c .args in
+    difference-small (a .lengths .now) (a .t3) (start c .pre .0) (a .m) (a .i) (c .before .before .loop .j) (row c) (row-is c)
 
 entry-at-requires : tie.Need-entry-at-requires Inv-loop μ-loop
 unfolding most-rows
@@ -66,19 +94,18 @@ loop-less c = search needs
 -- The number that is stored in a turn.
 stored : (c : tie.After-entry-at Inv-loop μ-loop)
     → c .entry-at .result
-    ≡ leading-number (c .before .before .before .before .before .before .args .entries .now) (c .before .before .before .before .before .before .args .lengths .now)
-    (c .before .before .before .before .before .before .args .t3) (c .before .before .before .before .before .before .args .m)
-    (c .before .before .before .before .before .before .args .i) (c .before .before .before .before .loop .j)
-unfolding leading-number
+    ≡ leading-number (start (c .before .before) .args .entries .now) (start (c .before .before) .args .lengths .now) (start (c .before .before) .args .t3)
+    (start (c .before .before) .args .m) (start (c .before .before) .args .i) (c .before .before .before .before .loop .j)
 stored c =
-    let s = c .before .before .before .before .before .before in
-    let degree = c .before .before .before .before .before .row-degree in
+    let called = c .before .before in
+    let a = start called .args in
     let j = c .before .before .before .before .loop .j in
     c .entry-at .ensures
-    ∙ ap (λ z. at-power z (cell (s .args .entries .now) (s .args .i) j))
+    ∙ ap (λ z. at-power z (cell (a .entries .now) (a .i) j))
     (back (record { sfits = c .before .minus .ok })
     ∙ c .before .minus .ensures
-    ∙ ap₂ _-ℤ_ (back (record { sfits = degree .ok }) ∙ degree .ensures) (shift-back (s .args .lengths .now) (s .args .t3) (s .pre .0) j))
+    ∙ ap (λ z. row called -ℤ z) (shift-back (a .lengths .now) (a .t3) (start called .pre .0) j))
+    ∙ sym (leading-some (a .entries .now) (a .lengths .now) (a .t3) (a .m) (a .i) j (row called) (row-is called))
 
 loop-again : tie.Need-loop-again Inv-loop μ-loop
 unfolding most-rows
@@ -86,9 +113,9 @@ loop-again c =
     let at = c .before .before .before .before in
     (search needs, filled-more 0 0 width _ (at .loop .j) (at .loop .row) (c .entry-at .result) (at .loop .inv .1) (omega arith) (stored c))
 
-returns : tie.Need-returns Inv-loop μ-loop
-returns c =
-    let s = c .before .before .before in
+returns-2 : tie.Need-returns-2 Inv-loop μ-loop
+returns-2 c =
+    let s = c .before .before .before .before .before .before in
     filled-row (leading-number (s .args .entries .now) (s .args .lengths .now) (s .args .t3) (s .args .m) (s .args .i)) (c .before .loop .inv .1) (omega arith)
 
 pub leading-row-spec : {M : Type 1} → statement M
@@ -98,6 +125,9 @@ leading-row-spec =
     Inv-loop
     μ-loop
     row-degree-requires
+    enum-known-degree
+    enum-told
+    returns
     loop-holds
     mul-minus
     array-copy-out-minus
@@ -108,4 +138,4 @@ leading-row-spec =
     add-j
     loop-less
     loop-again
-    returns)
+    returns-2)
