@@ -10,14 +10,15 @@
 use mathlib.Core.Path.{_≡_, refl, sym, ap, ap₂, subst, _∙_}
 use mathlib.Core.Logic.{_≢_, _↔_}
 use mathlib.Core.List.{[], _∷_}
-use Prim.Native.Nat.{ℕ, zero, suc, _<_, zero-le, suc-le-suc}
+use Prim.Native.Nat.{ℕ, zero, suc, _+_, _-_, _<_, zero-le, suc-le-suc}
 use native.Mathlib.Nat as Nat
+use native.Mathlib.Decide.{decLe}
 use native.Mathlib.Omega.{arith}
-use lib.IntN.{ℤ, pos, negsuc, sucℤ, _+ℤ_, _-ℤ_, +ℤ-idr, +ℤ-sucℤ}
+use lib.IntN.{ℤ, pos, negsuc, sucℤ, natAbs, _+ℤ_, _-ℤ_, +ℤ-idr, +ℤ-sucℤ, pos-ne-negsuc}
 use Rattle.algebra.specs.Ring as Ring
-use Rattle.algebra.specs.Ring.{CommRing, sign}
+use Rattle.algebra.specs.Ring.{CommRing, Decides, sign}
 use Rattle.algebra.specs.Solver.{v0, v1, v2, v3, ⓪, _⊞_, ⊟_, ring}
-use Rattle.algebra.specs.Integer.{Integers}
+use Rattle.algebra.specs.Integer.{Integers, More}
 use Rattle.algebra.specs.Sum.{sum, sum-apart, sum-cong, skip, skip-below}
 use Rattle.algebra.specs.Series.{Series, series-ext, constant}
 use Rattle.algebra.specs.Polynomial.{Below, below-mono, below-last, below-mul-suc, below-add, below-neg, below-constant, mul-leading}
@@ -149,6 +150,18 @@ module _ (R : CommRing) where
   pub at-most-mono : (e : ℤ) (k : ℕ) (f : ℕ → C) → AtMost e f → AtMost (e +ℤ pos k) f
   at-most-mono e zero f h = subst (λ x. AtMost x f) (sym (+ℤ-idr e)) h
   at-most-mono e (suc k) f h = subst (λ x. AtMost x f) (sym (+ℤ-sucℤ e (pos k))) (at-most-suc-iff (e +ℤ pos k) f .0 (at-most-mono e k f h) .0)
+
+  -- A series has degree at most e exactly if each of its coefficients other than 0 stands at a power that is at most e.
+  pub at-most-iff : Decides R → (e : ℤ) (f : ℕ → C) → AtMost e f ↔ ((k : ℕ) → f k ≢ 𝟘 → More (pos k) e)
+  unfolding AtMost
+  at-most-iff decides (pos d) f = (
+    λ h k ne. elim (decLe k d) [ yes le ↦ (d - k, ap pos (omega arith)) | no gt ↦ absurd (ne (h k (Nat.lt-of-not-le gt))) ],
+    λ h k above. elim (decides (f k)) [ yes z ↦ z | no ne ↦ absurd (let (l, e) = h k ne in omega (arith, ap natAbs e)) ],
+  )
+  at-most-iff decides (negsuc d) f = (
+    λ h k ne. absurd (ne (h k)),
+    λ h k. elim (decides (f k)) [ yes z ↦ z | no ne ↦ absurd (let (l, e) = h k ne in pos-ne-negsuc (k + l) d (sym e)) ],
+  )
 
   -- f has degree at most e, and its coefficient there is c.
   abbrev pub Lead : ℤ → (ℕ → C) → C → Type 0

@@ -3,15 +3,19 @@
 --   ℤ-induction              induction by successors and predecessors
 --   *ℤ-assoc, *ℤ-+ℤ          the laws of the product beside those of lib.IntN
 --   natAbs-add, natAbs-neg   how far a sum and a negative are from 0
+--   More x y                 y is x and a natural number more: more-self, more-trans, more-either, more-none
 use mathlib.Core.Path.{_≡_, refl, sym, ap, ap₂, _∙_}
+use mathlib.Core.Logic.{_⊎_, inl, inr}
 use mathlib.Core.Bool.{Bool, true, false, cond}
+use mathlib.Core.List.{[], _∷_}
 use Prim.Native.Nat.{ℕ, zero, suc, _+_, _-_, _≤_, _<_}
 use native.Mathlib.Nat.{le-refl, le-trans}
 use native.Mathlib.Omega.{arith}
 use lib.Dec.{T, ltb, ltb→lt}
-use lib.IntN.{ℤ, pos, negsuc, natAbs, subℕ, sucℤ, predℤ, negℤ, one, _+ℤ_, _*ℤ_, ℤ-set, +ℤ-assoc, +ℤ-comm, +ℤ-idl, +ℤ-idr, +ℤ-invr, negℤ-+ℤ, *ℤ-comm, *ℤ-one}
+use lib.IntN.{ℤ, pos, negsuc, natAbs, subℕ, sucℤ, predℤ, negℤ, one, _+ℤ_, _-ℤ_, _*ℤ_, ℤ-set, +ℤ-assoc, +ℤ-comm, +ℤ-idl, +ℤ-idr, +ℤ-invr, negℤ-+ℤ, *ℤ-comm, *ℤ-one}
 use lib.IntN.{zero-*ℤ, sucℤ-*ℤ, predℤ-*ℤ}
 use Rattle.algebra.specs.Ring.{CommRing}
+use Rattle.algebra.specs.Solver.{v0, v1, _⊞_, ⊟_, ring}
 
 -- What holds of 0, and with a number of its successor and of its predecessor, holds of every integer.
 pub ℤ-induction : (P : ℤ → Type 0) → P (pos zero) → ((a : ℤ) → P a → P (sucℤ a)) → ((a : ℤ) → P a → P (predℤ a)) → (a : ℤ) → P a
@@ -94,3 +98,28 @@ pub natAbs-neg : (x : ℤ) → natAbs (negℤ x) ≡ natAbs x
 natAbs-neg (pos zero) = refl
 natAbs-neg (pos (suc n)) = refl
 natAbs-neg (negsuc n) = refl
+
+-- y is x and a natural number more: x is at most y.
+abbrev pub More : ℤ → ℤ → Type 0
+More x y = (k : ℕ) × (y ≡ x +ℤ pos k)
+
+-- An integer is at most itself, …
+pub more-self : (x : ℤ) → More x x
+more-self x = (0, sym (+ℤ-idr x))
+
+-- … the order is transitive, …
+pub more-trans : (x : ℤ) {y z : ℤ} → More x y → More y z → More x z
+more-trans x (k, e) (l, e′) = (k + l, e′ ∙ ap (λ y. y +ℤ pos l) e ∙ +ℤ-assoc x (pos k) (pos l))
+
+-- … of two integers one is at most the other, …
+pub more-either : (x y : ℤ) → More x y ⊎ More y x
+more-either x y = by (y -ℤ x) refl
+  where
+    by : (d : ℤ) → y -ℤ x ≡ d → More x y ⊎ More y x
+    by (pos k) e = inl (k, ring Integers (x ∷ y ∷ []) v1 (v0 ⊞ (v1 ⊞ ⊟ v0)) refl ∙ ap (λ d. x +ℤ d) e)
+    by (negsuc k) e = inr (suc k, ring Integers (x ∷ y ∷ []) v0 (v1 ⊞ ⊟ (v1 ⊞ ⊟ v0)) refl ∙ ap (λ d. y -ℤ d) e)
+
+-- … and none is more than itself.
+pub more-none : (x : ℤ) (k : ℕ) → x ≡ x +ℤ pos k → k ≡ 0
+more-none x k e =
+    ap natAbs (ring Integers (x ∷ pos k ∷ []) v1 (v0 ⊞ v1 ⊞ ⊟ v0) refl ∙ ap (λ y. y -ℤ x) (sym e) ∙ +ℤ-invr x)

@@ -21,6 +21,7 @@ pub mod Elimination
 pub mod Degree
 pub mod Predictable
 pub mod Generation
+pub mod TwoBases
 pub mod Converse
 pub mod OrderBasis
 pub mod Examples

@@ -3,32 +3,37 @@
 --   RowAtMost m s D v        the row v has degree at most D for the shifts s: v j has degree at most D − s j
 --   row-coefficient s D v    the row of the coefficients at D − s j
 --   RowDegree m s D v        the row v has degree D for the shifts s
---   row-degree, row-degree-unique        a row has a degree where it has a coefficient other than 0, and one at most
+--   row-degree-coefficients  the same by the powers of its coefficients
+--   row-degree, row-zero-or-degree, row-degree-unique  a row has a degree where it has a coefficient other than 0, and one at most
 --   vmul-degree              the degree of a row times a matrix, and the coefficients there
 --   row-at-most-iff, predictable-degree  w·P has degree at most D, or degree D, for s exactly if w has it for r
 use mathlib.Core.Path.{_≡_, refl, sym, ap, subst, _∙_}
-use mathlib.Core.Logic.{_≢_, inl, inr, _↔_}
+use mathlib.Core.Logic.{_≢_, _⊎_, inl, inr, _↔_}
 use mathlib.Core.List.{[], _∷_}
 use Prim.Native.Nat.{ℕ, zero, suc, _+_, _-_, _≤_, _<_}
 use native.Mathlib.Omega.{arith}
-use lib.IntN.{ℤ, pos, negsuc, sucℤ, negℤ, natAbs, _+ℤ_, _-ℤ_, +ℤ-idr, +ℤ-idl, +ℤ-invl, +ℤ-assoc, +ℤ-negℤ-cancel, +ℤ-sucℤ, sucℤ-+ℤ}
+use lib.IntN.{ℤ, pos, negsuc, sucℤ, negℤ, natAbs, _+ℤ_, _-ℤ_, +ℤ-idr, +ℤ-idl, +ℤ-invl, +ℤ-assoc, +ℤ-negℤ-cancel, -ℤ-+ℤ-cancel, +ℤ-sucℤ, sucℤ-+ℤ}
 use Rattle.algebra.specs.Ring.{CommRing, Cancels, Decides}
 use Rattle.algebra.specs.Solver.{v0, v1, v2, _⊞_, ⊟_, ring}
-use Rattle.algebra.specs.Integer.{Integers}
-use Rattle.algebra.specs.Sum.{zeros-or-not}
+use Rattle.algebra.specs.Integer.{Integers, More}
+use Rattle.algebra.specs.Sum.{all-or-one, zeros-or-not}
 use Rattle.algebra.specs.Series.{Series}
-use Rattle.algebra.specs.Polynomial.{Below, Poly, below-mono}
+use Rattle.algebra.specs.Polynomial.{Below, Poly, below-mono, degree}
 use Rattle.algebra.specs.Polynomial.{maximum, le-maximum}
 use Rattle.algebra.specs.Matrix.{Row, Matrix, vmul, vmul-zero}
 use Rattle.algebra.specs.Det.{det}
 use Rattle.algebra.specs.Adjugate.{kernel-zero}
-use Rattle.algebra.specs.Degree.{AtMost, coefficient, Lead, leading, EntriesAtMost, at-most-suc-iff, at-most-mono, lead-at, lead-mul, lead-sum}
+use Rattle.algebra.specs.Degree.{AtMost, coefficient, Lead, leading, EntriesAtMost, at-most-suc-iff, at-most-mono, at-most-iff, lead-at, lead-mul, lead-sum}
+use Rattle.algebra.specs.Degree.{coefficient-ne-zero}
 
 sub-add : (a b c : ℤ) → a -ℤ b +ℤ c ≡ a +ℤ c -ℤ b
 sub-add a b c = ring Integers (a ∷ b ∷ c ∷ []) (v0 ⊞ ⊟ v1 ⊞ v2) (v0 ⊞ v2 ⊞ ⊟ v1) refl
 
 sub-add-sub : (a b c : ℤ) → a -ℤ b +ℤ (b -ℤ c) ≡ a -ℤ c
 sub-add-sub a b c = ring Integers (a ∷ b ∷ c ∷ []) (v0 ⊞ ⊟ v1 ⊞ (v1 ⊞ ⊟ v2)) (v0 ⊞ ⊟ v2) refl
+
+exchange-last : (a b c : ℤ) → a +ℤ b +ℤ c ≡ a +ℤ c +ℤ b
+exchange-last a b c = ring Integers (a ∷ b ∷ c ∷ []) (v0 ⊞ v1 ⊞ v2) (v0 ⊞ v2 ⊞ v1) refl
 
 module _ (R : CommRing) where
   open CommRing R using (C, 𝟘, _⊗_)
@@ -109,6 +114,28 @@ module _ (R : CommRing) where
       far : ℕ → ℕ
       far j = natAbs (D -ℤ s j) + v j .bound
 
+  -- A row has degree D exactly if it has a coefficient other than 0 in some column j at the power D − s j, and wherever it has one, the
+  -- power plus the shift is at most D.
+  pub row-degree-coefficients : Decides R → (m : ℕ) (s : ℕ → ℤ) (D : ℤ) (v : Row (Series R))
+      → RowDegree m s D v
+      ↔ (((j : ℕ) × (k : ℕ) × (j < m) × (v j k ≢ 𝟘) × (D ≡ pos k +ℤ s j)) × ((j k : ℕ) → j < m → v j k ≢ 𝟘 → More (pos k +ℤ s j) D))
+  unfolding coefficient
+  row-degree-coefficients decides m s D v = (
+    λ (bound, (j, b, ne)).
+        let (k, power, ne′) = coefficient-ne-zero R (D -ℤ s j) (v j) ne in (
+          (j, k, b, ne′, sym (-ℤ-+ℤ-cancel D (s j)) ∙ ap (λ x. x +ℤ s j) power),
+          λ j k b ne.
+              let (l, over) = at-most-iff R decides (D -ℤ s j) (v j) .0 (bound j b) k ne in
+              (l, sym (-ℤ-+ℤ-cancel D (s j)) ∙ ap (λ x. x +ℤ s j) over ∙ exchange-last (pos k) (pos l) (s j)),
+        ),
+    λ ((j, k, b, ne, power), none-higher). (
+      λ j b. at-most-iff R decides (D -ℤ s j) (v j) .1 (λ k ne.
+          let (l, over) = none-higher j k b ne in
+          (l, ap (λ x. x -ℤ s j) (over ∙ exchange-last (pos k) (s j) (pos l)) ∙ +ℤ-negℤ-cancel (pos k +ℤ pos l) (s j))),
+      (j, b, subst (λ x. coefficient R x (v j) ≢ 𝟘) (sym (ap (λ x. x -ℤ s j) power ∙ +ℤ-negℤ-cancel (pos k) (s j))) ne),
+    ),
+  )
+
   -- The degree of a product of a row and a matrix, and its coefficients there: those of the row times the leading matrix.
   pub vmul-degree : (m n : ℕ) (r s : ℕ → ℤ) (P : Matrix (Series R)) → EntriesAtMost R m n r s P → (w : Row (Series R)) (D : ℤ) → RowAtMost m r D w
       → (j : ℕ) → j < n → Lead R (D -ℤ s j) (vmul (Series R) m w P j) (vmul R m (row-coefficient r D w) (leading R r s P) j)
@@ -140,6 +167,15 @@ module _ (R : CommRing) where
         | inl zeros ↦ search-down k (row-at-most-suc-iff m s (pos a +ℤ s j +ℤ pos k) row .1
             (subst (λ D. RowAtMost m s D row × ((j : ℕ) → j < m → row-coefficient s D row j ≡ 𝟘)) (+ℤ-sucℤ (pos a +ℤ s j) (pos k)) (h, zeros)))
         | inr found ↦ (suc k, (h, found))
+      ]
+
+  -- A row of polynomials is zero or has a degree.
+  pub row-zero-or-degree : Decides R → (m : ℕ) (s : ℕ → ℤ) (v : ℕ → Poly R)
+      → ((j : ℕ) → j < m → v j .series ≡ Series R .𝟘) ⊎ ((D : ℤ) × RowDegree m s D (λ j. v j .series))
+  row-zero-or-degree decides m s v =
+      elim (all-or-one (λ j. v j .series ≡ Series R .𝟘) (λ j. (a : ℕ) × Below R (suc a) (v j .series) × (v j .series a ≢ 𝟘)) (λ j. degree R decides (v j)) m) [
+        | inl zeros ↦ inl zeros
+        | inr (j, b, (a, below, ne)) ↦ let (k, h) = row-degree decides m s v j a b ne in inr (pos a +ℤ s j +ℤ pos k, h)
       ]
 
 module _ (R : CommRing) (cancels : Cancels R) (m : ℕ) (r s : ℕ → ℤ) (P : Matrix (Series R))

@@ -38,6 +38,15 @@ skip-hits (suc n) (suc k) (suc i) hk h ne =
     let (c, b, e) = skip-hits n k i (le-of-suc-le-suc hk) (le-of-suc-le-suc h) (λ p. ne (ap suc p)) in
     (suc c, suc-le-suc b, ap suc e)
 
+-- No number comes twice.
+pub skip-injective : (k c d : ℕ) → skip k c ≡ skip k d → c ≡ d
+unfolding skip
+skip-injective zero c d e = suc-inj e
+skip-injective (suc k) zero zero e = refl
+skip-injective (suc k) zero (suc d) e = absurd (omega arith)
+skip-injective (suc k) (suc c) zero e = absurd (omega arith)
+skip-injective (suc k) (suc c) (suc d) e = ap suc (skip-injective k c d (suc-inj e))
+
 -- Leaving out one number below n + 1 leaves numbers below n + 1.
 pub skip-below : (n k c : ℕ) → c < n → skip k c < suc n
 unfolding skip
@@ -135,6 +144,20 @@ exchange i k f a = f (swap i k a)
 pub exchange-replace : {A : Type 0} (i k : ℕ) (f : ℕ → A) → exchange i k f ≡ replace i (f k) (replace k (f i) f)
 unfolding swap
 exchange-replace i k f = replace-map f i k (replace k i (λ a. a)) ∙ ap (replace i (f k)) (replace-map f k i (λ a. a))
+
+-- Where P or Q holds of each number, P holds of all numbers below n or Q of one.
+pub all-or-one : (P Q : ℕ → Type 0) → ((i : ℕ) → P i ⊎ Q i) → (n : ℕ) → ((i : ℕ) → i < n → P i) ⊎ ((i : ℕ) × (i < n) × Q i)
+all-or-one P Q either zero = inl (λ i h. absurd (not-suc-le-zero h))
+all-or-one P Q either (suc n) = step (either zero) (all-or-one (λ i. P (suc i)) (λ i. Q (suc i)) (λ i. either (suc i)) n)
+  where
+    all : P zero → ((i : ℕ) → i < n → P (suc i)) → (i : ℕ) → i < suc n → P i
+    all first later zero h = first
+    all first later (suc i) h = later i (le-of-suc-le-suc h)
+
+    step : P zero ⊎ Q zero → ((i : ℕ) → i < n → P (suc i)) ⊎ ((i : ℕ) × (i < n) × Q (suc i)) → ((i : ℕ) → i < suc n → P i) ⊎ ((i : ℕ) × (i < suc n) × Q i)
+    step (inr first) later = inr (zero, zero-lt-suc n, first)
+    step (inl first) (inl later) = inl (all first later)
+    step (inl first) (inr (i, h, one)) = inr (suc i, suc-le-suc h, one)
 
 module _ (R : CommRing) where
   open CommRing R using (C, 𝟘, _⊕_, _⊗_, ⊖_, add-assoc, add-comm, add-zero, mul-comm, mul-add)
@@ -246,18 +269,8 @@ module _ (R : CommRing) where
 
   -- The first n values are all 0, or one is not.
   pub zeros-or-not : Decides R → (n : ℕ) (f : ℕ → C) → ((i : ℕ) → i < n → f i ≡ 𝟘) ⊎ ((i : ℕ) × (i < n) × (f i ≢ 𝟘))
-  zeros-or-not decides zero f = inl (λ i h. absurd (not-suc-le-zero h))
-  zeros-or-not decides (suc n) f = step (decides (f zero)) (zeros-or-not decides n (λ i. f (suc i)))
-    where
-      all : f zero ≡ 𝟘 → ((i : ℕ) → i < n → f (suc i) ≡ 𝟘) → (i : ℕ) → i < suc n → f i ≡ 𝟘
-      all z zs zero h = z
-      all z zs (suc i) h = zs i (le-of-suc-le-suc h)
-
-      step : Dec (f zero ≡ 𝟘) → ((i : ℕ) → i < n → f (suc i) ≡ 𝟘) ⊎ ((i : ℕ) × (i < n) × (f (suc i) ≢ 𝟘))
-          → ((i : ℕ) → i < suc n → f i ≡ 𝟘) ⊎ ((i : ℕ) × (i < suc n) × (f i ≢ 𝟘))
-      step (no ne) r = inr (zero, zero-lt-suc n, ne)
-      step (yes z) (inl zs) = inl (all z zs)
-      step (yes z) (inr (i, h, ne)) = inr (suc i, suc-le-suc h, ne)
+  zeros-or-not decides n f =
+      all-or-one (λ i. f i ≡ 𝟘) (λ i. f i ≢ 𝟘) (λ i. elim (decides (f i)) [ yes z ↦ inl z | no ne ↦ inr ne ]) n
 
 module _ (R S : CommRing) (Rel : R .C → S .C → Type 0) (keeps : RingRelation R S Rel) where
   -- Sums of related terms are related.
