@@ -3,6 +3,8 @@ pub mod Bridge
 pub mod Generating
 pub mod Verdicts
 pub mod Meaning
+pub mod Least
+pub mod LeastDegrees
 pub mod Before
 pub mod Examples
 pub mod StandIns
