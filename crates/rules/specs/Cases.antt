@@ -5,17 +5,18 @@
 --   unmarked, unmarked-judged          the others, with the edges and a refusal of each kind
 --   disk-problem, disk-answer          the files on disk: disk-written, disk-lengths, disk-line, cut-line, disk-evidence-made
 --   nofile-problem-line, nofile-answer-line      the lines where a file can't be opened
---   parts-pointed-at         the bytes handed back
+--   refused-evidence-made, square-evidence-made    the evidence of a refused problem, and of two rows and columns
+--   parts-pointed-at, places-pointed-at            the bytes handed back, and where they lie
 use mathlib.Core.Path.{_≡_, refl}
 use mathlib.Core.List.{List, [], _∷_, _++_, map}
 use Prim.Native.Nat.{ℕ}
 use lib.IntN.{ℤ, pos, negsuc}
 use lib.ListN.{length, replicate}
 use Rattle.rules.specs.Claim.{Claim}
-use Rattle.rules.specs.Writer.{write-problem, write-answer}
+use Rattle.rules.specs.Writer.{write-problem, write-basis, write-answer}
 use Rattle.rules.specs.Verdict.{Numbers, four}
 use Rattle.rules.specs.Print.{digits-within, nofile-line}
-use Rattle.rules.specs.Run.{run-verdict, run-line, run-part, run-evidence}
+use Rattle.rules.specs.Run.{run-verdict, run-line, run-part, run-place, run-evidence}
 
 -- Two files, and the four numbers of their verdict.
 pub record Case : Type 0 where
@@ -32,6 +33,13 @@ abbrev pub one-by-one : (p d : ℕ) → ℤ → List ℕ → List ℕ → ℕ �
 one-by-one p d s P F C = record {
   problem = record { p = p; m = 1; n = 1; orders = d ∷ []; shifts = s ∷ []; F = (F ∷ []) ∷ [] };
   answer = record { P = (P ∷ []) ∷ []; C = (C ∷ []) ∷ [] };
+}
+
+-- Two rows and two columns, of order 1, with the rows (1, 2) and (3, 4) of F, and P = X times the identity.
+abbrev two-by-two : Claim
+two-by-two = record {
+  problem = record { p = 5; m = 2; n = 2; orders = 1 ∷ 1 ∷ []; shifts = pos 0 ∷ pos 0 ∷ []; F = ((1 ∷ []) ∷ (3 ∷ []) ∷ []) ∷ ((2 ∷ []) ∷ (4 ∷ []) ∷ []) ∷ [] };
+  answer = record { P = ((0 ∷ 1 ∷ []) ∷ [] ∷ []) ∷ ([] ∷ (0 ∷ 1 ∷ []) ∷ []) ∷ []; C = (1 ∷ 2 ∷ []) ∷ (3 ∷ 4 ∷ []) ∷ [] };
 }
 
 -- "p = 7, m = 2, n = 1, order 2, F rows 1 and 1 + X; P rows (6 + 6X, 1) and (6X, X)": the shifts, and C.
@@ -107,7 +115,8 @@ edge p d s = written (one-by-one p d s (1 ∷ []) (replicate d 0) 0)
 abbrev on-disk : List ℕ → Numbers → Case
 on-disk t v = record { problem = disk-problem; answer = t; expected = v }
 
--- "With F = 1: still 10, before 11."; the files on disk and their variants; the edges; a claim of each kind of refusal by reading.
+-- "With F = 1: still 10, before 11."; the files on disk and their variants; the edges; a claim of each kind of refusal by reading; a
+-- refusal by rank modulo 2, where 1 is the only constant that counts.
 abbrev pub unmarked : List Case
 unmarked =
     small (4 ∷ 1 ∷ []) (1 ∷ []) 0 (four 10 0 0 0)
@@ -130,6 +139,7 @@ unmarked =
     ∷ edge 5 1 (negsuc 999) (four 0 0 0 0)
     ∷ edge 5 1 (negsuc 1_000) (four 3 0 2 13)
     ∷ edge 5 1 (pos 1_001) (four 3 0 2 13)
+    ∷ written (one-by-one 2 1 (pos 0) (0 ∷ 1 ∷ []) (0 ∷ []) 0) (four 13 0 0 0)
     ∷ []
 
 -- Each of these, too, is judged as document 01 says.
@@ -165,6 +175,18 @@ pub disk-evidence-made :
 unfolding run-evidence
 disk-evidence-made = refl
 
+-- "After a refusal every byte is as before."
+pub refused-evidence-made : run-evidence [] [] (replicate 3 170) ≡ (four 1 0 0 0, replicate 3 170)
+unfolding run-evidence
+refused-evidence-made = refl
+
+-- "m × n numbers of four bytes, row by row"
+pub square-evidence-made :
+    run-evidence (write-problem (two-by-two .problem)) (write-basis (two-by-two .answer .P)) (replicate 18 170)
+    ≡ (four 0 0 0 18, 0x43 ∷ 0x45 ∷ 1 ∷ 0 ∷ 0 ∷ 0 ∷ 2 ∷ 0 ∷ 0 ∷ 0 ∷ 3 ∷ 0 ∷ 0 ∷ 0 ∷ 4 ∷ 0 ∷ 0 ∷ 0 ∷ [])
+unfolding run-evidence
+square-evidence-made = refl
+
 -- The part handed back: of a fault below the order the `FC` record, of one at the order the `CE` record, of a cut answer its last record.
 pub parts-pointed-at :
     run-part (small (1 ∷ []) (1 ∷ []) 0 (four 11 2 0 0) .problem) (small (1 ∷ []) (1 ∷ []) 0 (four 11 2 0 0) .answer)
@@ -175,3 +197,11 @@ pub parts-pointed-at :
     ≡ (0x46 ∷ 0x43 ∷ 0 ∷ 1 ∷ 0 ∷ 0 ∷ 0 ∷ []) ∷ (0x43 ∷ 0x45 ∷ 0 ∷ 0 ∷ 0 ∷ 0 ∷ []) ∷ disk-evidence ∷ [] ∷ []
 unfolding run-part
 parts-pointed-at = refl
+
+-- Where they lie, as file, start and size: "Codes 0, 9, 10 and 13: the empty part at the front of the answer"; a part of a refused file
+-- ends with the file, "and a record that has no byte gives the empty part at the file's end".
+pub places-pointed-at :
+    map (λ c. run-place (c .problem) (c .answer)) (on-disk disk-answer (four 0 0 0 2) ∷ on-disk (disk-entries 6) (four 1 1 4 48) ∷ [])
+    ≡ record { file = 1; start = 0; size = 0 } ∷ record { file = 1; start = 48; size = 0 } ∷ []
+unfolding run-place
+places-pointed-at = refl

@@ -1,11 +1,14 @@
 -- The cases of document 02's requests, as one list with one proof over it. Those of document 01 are in `Cases`, and keep their verdicts.
 --   two-rows                 the claims of L2: two rows and one column of order 1, modulo 7
 --   requested, requested-judged      the cases
+--   zero-row-degrees         a row of zeros has no degree, and then there is no Δ
 use mathlib.Core.Path.{_≡_, refl}
 use mathlib.Core.List.{List, [], _∷_, map}
+use mathlib.Core.Option.{none, some}
 use Prim.Native.Nat.{ℕ}
 use lib.IntN.{ℤ, pos, negsuc}
 use Rattle.rules.specs.Claim.{Claim}
+use Rattle.rules.specs.Conditions.{row-degree, degree-sum}
 use Rattle.rules.specs.Verdict.{four}
 use Rattle.rules.specs.Cases.{Case, written, one-by-one}
 use Rattle.rules.specs.Run.{run-verdict}
@@ -63,3 +66,13 @@ requested =
 pub requested-judged : map (λ c. run-verdict (c .problem) (c .answer)) requested ≡ map (λ c. c .expected) requested
 unfolding run-verdict
 requested-judged = refl
+
+-- "A row with no entry other than zero has no row degree" (L2), and then there is no Δ.
+abbrev zero-row : Claim
+zero-row = two-rows (pos 0) (pos 5) 0 0 one-zero-row 0 0
+
+pub zero-row-degrees :
+    row-degree (zero-row .problem) (zero-row .answer .P) 0 ∷ row-degree (zero-row .problem) (zero-row .answer .P) 1 ∷ degree-sum (zero-row .problem) (zero-row .answer .P) ∷ []
+    ≡ some (pos 0) ∷ none ∷ none ∷ []
+unfolding run-verdict
+zero-row-degrees = refl

@@ -1,5 +1,6 @@
 -- The rules, run on closed files: each definition here opens all that it takes to compute it, so that a case is judged by `refl`.
---   run-verdict, run-line, run-part, run-evidence      the four numbers, the line, the bytes pointed at, the evidence made
+--   run-verdict, run-line, run-place, run-part, run-evidence     the four numbers, the line, the part pointed at and its bytes, the
+--                                                                evidence made
 use mathlib.Core.List.{List}
 use Prim.Native.Nat.{ℕ}
 use Rattle.algebra.specs.Ring.{sign}
@@ -21,7 +22,7 @@ use Rattle.rules.specs.Conditions.{rank-below}
 use Rattle.rules.specs.Writer.{write-problem, write-answer}
 use Rattle.rules.specs.Verdict.{Numbers, numbers, verdict, judge-claim, by-product, by-rank}
 use Rattle.rules.specs.Evidence.{table, evidence-of, make-evidence}
-use Rattle.rules.specs.Part.{rest-of-file, column-size, column-start, claim-part, pointed-at, part-bytes}
+use Rattle.rules.specs.Part.{Part, rest-of-file, column-size, column-start, claim-part, pointed-at, part-bytes}
 use Rattle.rules.specs.Print.{digits-within, line-of}
 
 -- The four numbers of the verdict on two files.
@@ -39,10 +40,15 @@ unfoldable pub run-line : List ℕ → List ℕ → List ℕ
 unfolding run-verdict line-of digits-within
 run-line s t = line-of (run-verdict s t)
 
--- The bytes that it points at.
+-- The part that it points at, …
+unfoldable pub run-place : List ℕ → List ℕ → Part
+unfolding run-verdict rest-of-file column-size column-start claim-part pointed-at
+run-place s t = pointed-at s t
+
+-- … and its bytes.
 unfoldable pub run-part : List ℕ → List ℕ → List ℕ
-unfolding run-verdict rest-of-file column-size column-start claim-part pointed-at part-bytes
-run-part s t = part-bytes s t (pointed-at s t)
+unfolding run-place part-bytes
+run-part s t = part-bytes s t (run-place s t)
 
 -- The four numbers that evidence-making answers, and the buffer afterwards.
 unfoldable pub run-evidence : List ℕ → List ℕ → List ℕ → Numbers × List ℕ
