@@ -1,6 +1,7 @@
 -- The value of a polynomial at a point.
 --   ev d a f                 the value at a of f, of which d is a bound, by Horner's rule
 --   value a f                the value of a polynomial
+--   ev-powers                it is the sum of the coefficients times the powers of the point
 --   Evaluates a f y          f has a bound, and y is its value at a
 --   evaluation               every operation of the ring keeps values
 --   root-of-factor           a root of a product is a root of a factor
@@ -11,7 +12,8 @@ use native.Mathlib.Nat as Nat
 use native.Mathlib.Nat.{le-of-suc-le-suc, not-suc-le-zero, le-max-left, le-max-right}
 use native.Mathlib.Omega.{arith}
 use Rattle.algebra.specs.Ring as Ring
-use Rattle.algebra.specs.Ring.{CommRing, Decides, Cancels, RingRelation}
+use Rattle.algebra.specs.Ring.{CommRing, Decides, Cancels, RingRelation, power}
+use Rattle.algebra.specs.Sum.{sum, sum-cong, mul-sum}
 use Rattle.algebra.specs.Series.{Series, tail, convolve, convolve-vanishes, constant, X}
 use Rattle.algebra.specs.Polynomial.{Below, below-mono, below-zero, below-constant, below-X, below-add, below-neg, below-mul, Poly}
 
@@ -96,6 +98,16 @@ module _ (R : CommRing) where
       ∙ regroup (f zero) (g zero) a (ev (d + e) a (tail R g)) (ev d a (tail R f)) (ev e a g)
       ∙ ap (λ y. f zero ⊗ y ⊕ a ⊗ ev d a (tail R f) ⊗ ev e a g) (ev-mono e (suc (d + e)) a g (omega arith) hg)
       ∙ sym (Ring.add-mul R _ _ _)
+
+  -- The value is the sum of the f k · aᵏ.
+  pub ev-powers : (d : ℕ) (a : C) (f : ℕ → C) → ev d a f ≡ sum R d (λ k. f k ⊗ power R a k)
+  unfolding ev sum power
+  ev-powers zero a f = refl
+  ev-powers (suc d) a f =
+      ap₂ (λ x y. x ⊕ y) (sym (mul-one (f zero)))
+      (ap (λ y. a ⊗ y) (ev-powers d a (tail R f))
+      ∙ mul-sum R d a (λ k. f (suc k) ⊗ power R a k)
+      ∙ sum-cong R d (λ k. a ⊗ (f (suc k) ⊗ power R a k)) (λ k. f (suc k) ⊗ (a ⊗ power R a k)) (λ k b. Ring.mul-left-comm R a (f (suc k)) (power R a k)))
 
   -- A constant has its own value.
   pub evaluates-constant : (a c : C) → Evaluates a (constant R c) c

@@ -1,4 +1,4 @@
--- Inverses, determinants and a division by a root in numbers, each by computation.
+-- Inverses, determinants, a division by a root and how many roots there are, in numbers, each by computation.
 --   residues p l             the residues modulo p of the numbers of l
 use mathlib.Core.Path.{_≡_, refl}
 use mathlib.Core.Logic.{ite}
@@ -6,11 +6,13 @@ use mathlib.Core.Bool.{true, false}
 use mathlib.Core.List.{List, [], _∷_}
 use Prim.Native.Nat.{ℕ, zero, suc, _-_, _^_}
 use native.Mathlib.Omega.{arith}
+use lib.Dec.{eqb}
 use lib.ListN.{getD}
 use lib.IntN.{pos}
 use Rattle.algebra.specs.Ring.{sign}
 use Rattle.algebra.specs.Sum.{skip, sum}
 use Rattle.algebra.specs.Residue.{Residue, red, K, K-decides, K-inverse}
+use Rattle.algebra.specs.Count.{count}
 use Rattle.algebra.specs.Series.{Series, series-ext, convolve, constant}
 use Rattle.algebra.specs.Polynomial.{Poly, Below, below-mono, poly-list}
 use Rattle.algebra.specs.Evaluation.{ev, value}
@@ -92,3 +94,17 @@ divided-by-root = series-ext (K 101) (elim [
   | suc (suc zero) ↦ refl
   | suc (suc (suc k)) ↦ poly-quo (K 101) (red 101 1) cube-less-one .below (suc (suc (suc k))) (omega arith)
 ])
+
+-- How many of the p numbers modulo p are roots of X² − 1.
+square-roots-of-one : ℕ → ℕ
+square-roots-of-one p = count p (λ x. eqb (value (K p) (red p x) (poly-list (K p) (residues p ((p - 1) ∷ 0 ∷ 1 ∷ []))) .0) 0)
+
+-- Modulo the prime 7 they are two, as many as the degree allows …
+two-roots : square-roots-of-one 7 ≡ 2
+unfolding ev red count square-roots-of-one
+two-roots = refl
+
+-- … and modulo 8 there are four: the bound is one for primes.
+four-roots : square-roots-of-one 8 ≡ 4
+unfolding ev red count square-roots-of-one
+four-roots = refl

@@ -4,10 +4,12 @@ pub mod Sum
 pub mod Integer
 pub mod Prime
 pub mod Residue
+pub mod Count
 pub mod Series
 pub mod Polynomial
 pub mod Evaluation
 pub mod Root
+pub mod Roots
 pub mod Linears
 pub mod Matrix
 pub mod Det

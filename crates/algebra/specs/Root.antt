@@ -49,12 +49,15 @@ module _ (R : CommRing) where
   below-lin a zero b = absurd (not-suc-le-zero b)
   below-lin a (suc k) b = below-constant R 𝟙 k (le-of-suc-le-suc b)
 
-  -- The factor X − a has the root a.
+  -- The value of X − a at b is b − a, …
+  pub evaluates-lin-at : (a b : C) → Evaluates R b (lin a) (b ⊕ ⊖ a)
+  evaluates-lin-at a b =
+      subst (λ f. Evaluates R b f (b ⊕ ⊖ a)) (sym (lin-eq a))
+      (evaluation R b .rel-add (evaluates-X R b) (evaluation R b .rel-neg (evaluates-constant R b a)))
+
+  -- … so that X − a has the root a.
   pub evaluates-lin : (a : C) → Evaluates R a (lin a) 𝟘
-  evaluates-lin a =
-      subst (λ f. Evaluates R a f 𝟘) (sym (lin-eq a))
-      (subst (Evaluates R a (X R ⊞ ⊟ constant R a)) (add-neg a)
-      (evaluation R a .rel-add (evaluates-X R a) (evaluation R a .rel-neg (evaluates-constant R a a))))
+  evaluates-lin a = subst (Evaluates R a (lin a)) (add-neg a) (evaluates-lin-at a a)
 
   -- The product with X − a: its coefficient at 0 …
   pub lin-mul-zero : (a : C) (f : ℕ → C) → (lin a ⊠ f) zero ≡ ⊖ (a ⊗ f zero)

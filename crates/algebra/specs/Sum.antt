@@ -10,7 +10,7 @@ use native.Mathlib.Nat.{le-of-suc-le-suc, not-suc-le-zero, zero-lt-suc, suc-inj}
 use native.Mathlib.Omega.{arith}
 use native.Mathlib.Decide.{ℕ-discrete}
 use Rattle.algebra.specs.Ring as Ring
-use Rattle.algebra.specs.Ring.{CommRing, RingRelation, Decides}
+use Rattle.algebra.specs.Ring.{CommRing, RingRelation, Decides, Cancels}
 use Rattle.algebra.specs.Solver.{v0, v1, v2, _⊞_, ring}
 use mathlib.Core.List.{[], _∷_}
 
@@ -271,6 +271,23 @@ module _ (R : CommRing) where
   pub zeros-or-not : Decides R → (n : ℕ) (f : ℕ → C) → ((i : ℕ) → i < n → f i ≡ 𝟘) ⊎ ((i : ℕ) × (i < n) × (f i ≢ 𝟘))
   zeros-or-not decides n f =
       all-or-one (λ i. f i ≡ 𝟘) (λ i. f i ≢ 𝟘) (λ i. elim (decides (f i)) [ yes z ↦ inl z | no ne ↦ inr ne ]) n
+
+  -- A sum of multiples of e 0, …, e (n − 1) determines the multiplier of e i, where e i is not 0 and the other multipliers are known.
+  pub sum-determines : Cancels R → (n i : ℕ) (e x y : ℕ → C) → i < n → e i ≢ 𝟘 → ((a : ℕ) → a ≢ i → x a ≡ y a)
+      → sum n (λ a. x a ⊗ e a) ≡ sum n (λ a. y a ⊗ e a) → x i ≡ y i
+  sum-determines cancels zero i e x y hi ne same h = absurd (not-suc-le-zero hi)
+  sum-determines cancels (suc n) i e x y hi ne same h =
+      Ring.mul-cancel R cancels (e i) (x i) (y i) ne (mul-comm (e i) (x i) ∙ alone ∙ mul-comm (y i) (e i))
+    where
+      others : sum n (λ a. y (skip i a) ⊗ e (skip i a)) ≡ sum n (λ a. x (skip i a) ⊗ e (skip i a))
+      others =
+          sum-cong n (λ a. y (skip i a) ⊗ e (skip i a)) (λ a. x (skip i a) ⊗ e (skip i a))
+          (λ a b. ap (λ z. z ⊗ e (skip i a)) (sym (same (skip i a) (skip-ne i a))))
+
+      alone : x i ⊗ e i ≡ y i ⊗ e i
+      alone =
+          Ring.add-cancel R (x i ⊗ e i) (y i ⊗ e i) (sum n (λ a. x (skip i a) ⊗ e (skip i a)))
+          (sym (sum-apart n i (λ a. x a ⊗ e a) hi) ∙ h ∙ sum-apart n i (λ a. y a ⊗ e a) hi ∙ ap (λ z. y i ⊗ e i ⊕ z) others)
 
 module _ (R S : CommRing) (Rel : R .C → S .C → Type 0) (keeps : RingRelation R S Rel) where
   -- Sums of related terms are related.
