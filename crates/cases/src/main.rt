@@ -8,6 +8,7 @@ ghost use Prim.Native.Nat.{_+_, _*_, _≤_, _<_};
 ghost use lib.ListN.{length};
 ghost use Rattle.cases.specs.Limits.{longest, most-lent, chunk, most-digits};
 use libc::STDOUT_FILENO;
+use writer::put_number;
 use writer::put_text;
 
 // The longest file of a case.
@@ -21,9 +22,6 @@ const HEAD: usize = 128;
 
 // So many bytes are written in hex at a time.
 const CHUNK: usize = 2048;
-
-// The digits of the longest number.
-const DIGITS: usize = 20;
 
 // The smaller of two numbers.
 fn least(a: usize, b: usize) -> usize
@@ -73,14 +71,12 @@ fn write_hex(bytes: &[u8]) {
 }
 
 // Puts a space and the decimal digits of `n` at `at` and gives the place after them.
-fn put_spaced(out: &mut [u8], at: usize, n: u64) -> usize
+fn put_spaced(out: &mut [u8], at: usize, n: u32) -> usize
     requires { ⌜ at + 1 + most-digits ≤ length (now out) ⌝ }
     ensures { λ r. ⌜ r ≤ at + 1 + most-digits ⌝ }
 {
-    let mut digits = [0u8; DIGITS];
-    let k = least(io::decimal(n, &mut digits), DIGITS);
     let next = put_text(out, at, b" ");
-    put_text(out, next, &digits[..k])
+    put_number(out, next, n)
 }
 
 // Writes a line: the first `end` bytes of `head`, and after a space `bytes` in hex, or nothing more where there are none.
@@ -106,11 +102,13 @@ fn write_verdict(problem: &[u8], answer: &[u8]) {
 }
 
 // The line for the part that the verdict points at.
-fn write_part(part: &[u8]) {
+fn write_part(part: &[u8])
+    requires { ⌜ length (now part) ≤ longest ⌝ }
+{
     let mut space = [0u8; HEAD];
     let head: &mut [u8] = &mut space;
     let word = put_text(head, 0, b"part");
-    let end = put_spaced(head, word, part.len() as u64);
+    let end = put_spaced(head, word, part.len() as u32);
     write_line(head, end, part);
 }
 
@@ -120,10 +118,10 @@ fn write_evidence(problem: &[u8], answer: &[u8], lent: &mut [u8]) {
     let mut space = [0u8; HEAD];
     let head: &mut [u8] = &mut space;
     let word = put_text(head, 0, b"evidence");
-    let code = put_spaced(head, word, v % 256);
-    let file = put_spaced(head, code, v / 256 % 256);
-    let record = put_spaced(head, file, v / 65536 % 65536);
-    let end = put_spaced(head, record, v / 4294967296);
+    let code = put_spaced(head, word, (v % 256) as u32);
+    let file = put_spaced(head, code, (v / 256 % 256) as u32);
+    let record = put_spaced(head, file, (v / 65536 % 65536) as u32);
+    let end = put_spaced(head, record, (v / 4294967296) as u32);
     write_line(head, end, lent);
 }
 
@@ -136,6 +134,7 @@ fn marked() -> [u8; MOST_LENT]
 
 // The three lines of a case.
 fn write_case<'a>(problem: &'a [u8], answer: &'a [u8], lent: usize)
+    requires { ⌜ (length (now problem) ≤ longest) × (length (now answer) ≤ longest) ⌝ }
     requires { ⌜ lent ≤ most-lent ⌝ }
 {
     write_verdict(problem, answer);

@@ -5,24 +5,11 @@ ghost use lib.ListN.{length};
 ghost use Rattle.rules.specs.Print.{digits, space, line-of};
 ghost use Rattle.line.specs.Text.{room, numbers-room, four-numbers, unpacked};
 ghost use Rattle.writer.specs.Appended.{Appended};
+use writer::put_number;
 use writer::put_text;
 
 // What a line needs at most: `refuse 255 255 65535 4294967295` and a line feed.
 pub const ROOM: usize = 32;
-
-// Puts the decimal digits of `n` at `at` and gives the place after them.
-fn put_number(out: &mut [u8], at: usize, n: u32) -> usize
-    requires { ⌜ at + length (digits n) ≤ length (now out) ⌝ }
-    ensures { λ r. ⌜ Appended (now (out .entry)) (now (out .exit)) at r (digits n) ⌝ }
-{
-    if n < 10 {
-        out[at] = 48 + n as u8;
-        return at + 1;
-    }
-    let next = put_number(out, at, n / 10);
-    out[next] = 48 + (n % 10) as u8;
-    next + 1
-}
 
 // Puts a space and the decimal digits of `n` at `at` and gives the place after them.
 fn put_spaced(out: &mut [u8], at: usize, n: u32) -> usize

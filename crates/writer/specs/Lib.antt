@@ -1,2 +1,3 @@
 pub mod Appended
 pub mod FourBytes
+pub mod Decimal

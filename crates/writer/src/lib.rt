@@ -2,6 +2,7 @@
 ghost use Prim.Native.Nat.{_+_, _≤_};
 ghost use lib.ListN.{length};
 ghost use Rattle.rules.specs.Writer.{bytes};
+ghost use Rattle.rules.specs.Print.{digits};
 ghost use Rattle.writer.specs.Appended.{Appended};
 
 // Puts `text` at `at` and gives the place after it.
@@ -27,4 +28,18 @@ pub fn put4(out: &mut [u8], at: usize, v: u32) -> usize
     out[at + 2] = (v / 65536 % 256) as u8;
     out[at + 3] = (v / 16777216 % 256) as u8;
     at + 4
+}
+
+// Puts the decimal digits of `n` at `at` and gives the place after them.
+pub fn put_number(out: &mut [u8], at: usize, n: u32) -> usize
+    requires { ⌜ at + length (digits n) ≤ length (now out) ⌝ }
+    ensures { λ r. ⌜ Appended (now (out .entry)) (now (out .exit)) at r (digits n) ⌝ }
+{
+    if n < 10 {
+        out[at] = 48 + n as u8;
+        return at + 1;
+    }
+    let next = put_number(out, at, n / 10);
+    out[next] = 48 + (n % 10) as u8;
+    next + 1
 }

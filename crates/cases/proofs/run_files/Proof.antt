@@ -60,7 +60,7 @@ slice-aggregate-write-case-2 : tie.Need-slice-aggregate-write-case-2
 slice-aggregate-write-case-2 c = simp length-take (omega arith)
 
 write-case-requires : tie.Need-write-case-requires
-write-case-requires c κs = search needs
+write-case-requires c κs = simp length-take (omega arith)
 
 same-length-4 : tie.Need-same-length-4
 same-length-4 c = search needs

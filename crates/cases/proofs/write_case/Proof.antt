@@ -1,7 +1,9 @@
--- `cases::write_case` is safe and ends: the bytes lent are a part of the marked ones.
+-- `cases::write_case` is safe and ends: the part is no longer than a file, and the bytes lent are a part of the marked ones.
 use borrow.Author.Needs.{needs}
 use lib.ListN.{length-take}
 use native.Mathlib.Omega.{arith}
+use denote.Ref.{now}
+use Rattle.cases.specs.Limits.{part-fits}
 use Rattle.cases.proofs.write_case.Statement.{statement}
 use Rattle.cases.proofs.write_case.Tie as tie
 
@@ -12,7 +14,9 @@ pointed-at-requires : tie.Need-pointed-at-requires
 pointed-at-requires c κs = search needs
 
 write-part-requires : tie.Need-write-part-requires
-write-part-requires c κs = search needs
+write-part-requires c κs =
+    let start = c .before .before .before .before in
+    rw (c .pointed-at .ensures .bytes) (part-fits (now (start .args .problem)) (now (start .args .answer)) _ (start .pre .0 .0) (start .pre .0 .1))
 
 marked-requires : tie.Need-marked-requires
 marked-requires c κs = search needs

@@ -8,7 +8,7 @@ use Prim.Native.Nat.{_/_}
 use Rattle.rules.specs.Print.{digits, pass-word, refuse-word}
 use Rattle.line.proofs.line.Statement.{statement}
 use Rattle.line.proofs.line.Tie as tie
-use Rattle.line.proofs.put_number.Reads as put-number-reads
+use Rattle.writer.proofs.put_number.Reads as put-number-reads
 use Rattle.line.proofs.put_numbers.Reads as put-numbers-reads
 use Rattle.writer.proofs.put_text.Reads as put-text-reads
 

@@ -7,7 +7,7 @@ use Rattle.line.specs.Text.{unpacked, digits-byte, digits-short, digits-
 use Rattle.writer.specs.Appended.{appended-both}
 use Rattle.line.proofs.put_numbers.Statement.{statement}
 use Rattle.line.proofs.put_numbers.Tie as tie
-use Rattle.line.proofs.put_number.Reads as put-number-reads
+use Rattle.writer.proofs.put_number.Reads as put-number-reads
 use Rattle.line.proofs.put_spaced.Reads as put-spaced-reads
 
 cast-put-number : tie.Need-cast-put-number

@@ -1,18 +1,18 @@
 use borrow.Author.Needs.{needs}
-use mathlib.Core.Path.{sym, ap, subst}
-use Prim.Native.Nat.{ℕ, _+_, _<_}
+use mathlib.Core.Path.{ap}
+use Prim.Native.Nat.{ℕ, _<_}
 use native.Mathlib.Omega.{arith}
-use lib.ListN.{length, set, length-set}
-use Rattle.line.specs.Text.{appended-digit, digits-small, digits-more}
-use Rattle.writer.specs.Appended.{Appended, appended-byte}
+use lib.ListN.{length, length-set}
+use Rattle.writer.specs.Decimal.{digits-small, digits-more, appended-one, appended-digit}
 use borrow.Fn.Kinds.{In}
 use borrow.Fn.PlainCycle.{Measures, is, falls, and}
-use Rattle.line.proofs.put_number.Reads as put-number
-use Rattle.line.proofs.put_number.Kinds as put-number-kinds
-use Rattle.line.proofs.+put_number.Lts-put_number as put-number-lts
-use Rattle.line.proofs.+put_number.{statement}
-use Rattle.line.proofs.+put_number.Tie.{close}
+use Rattle.writer.proofs.put_number.Reads as put-number
+use Rattle.writer.proofs.put_number.Kinds as put-number-kinds
+use Rattle.writer.proofs.+put_number.Lts-put_number as put-number-lts
+use Rattle.writer.proofs.+put_number.{statement}
+use Rattle.writer.proofs.+put_number.Tie.{close}
 
+-- What falls is the number itself: a tenth part of it is left.
 abbrev μ-put-number : Measures 1 put-number-kinds.ps ℕ
 μ-put-number κs a = a .1 .1 .0
 
@@ -44,7 +44,9 @@ put-number-slice-write-out : (t : ℕ) → put-number-lts.Need-slice-write-out (
   put-number-below t,
   put-number.Post,
 ) (put-number-at t) put-number.Post
-put-number-slice-write-out t c = omega (arith, ap length (digits-small (c .before .before .args .n) (c .if1 .taken)), c .before .before .pre .1)
+put-number-slice-write-out t c =
+    let start = c .before .before in
+    omega (arith, ap length (digits-small (start .args .n) (c .if1 .taken)), start .pre .1)
 
 put-number-add-result : (t : ℕ) → put-number-lts.Need-add-result (
   put-number-below t,
@@ -65,16 +67,16 @@ put-number-returns :
     (put-number-at t)
     put-number.Post
 put-number-returns t c =
-    let a = c .before .before .args in
-    subst (Appended (a .out .now) (set (a .out .now) (a .at) (48 + a .n)) (a .at) (a .at + 1)) (sym (digits-small (a .n) (c .if1 .taken))) (appended-byte (a .out .now) (a .at) (48 + a .n) (omega (arith, ap length (digits-small (a .n) (c .if1 .taken)), c .before .before .pre .1)))
+    let start = c .before .before in
+    appended-one (start .args .out .now) (start .args .at) (start .args .n) (c .if1 .taken) (start .pre .1)
 
 put-number-put-number-requires : (t : ℕ) → put-number-lts.Need-put-number-requires (
   put-number-below t,
   put-number.Post,
 ) (put-number-at t) put-number.Post
 put-number-put-number-requires t c κs =
-    let a = c .before .before .before .args in
-    (omega (arith, c .before .before .before .pre .0), omega (arith, digits-more (a .n) (c .before .if1 .left), c .before .before .before .pre .1))
+    let start = c .before .before .before in
+    (omega (arith, start .pre .0), omega (arith, digits-more (start .args .n) (c .before .if1 .left), start .pre .1))
 
 put-number-cast-out-2 : (t : ℕ) → put-number-lts.Need-cast-out-2 (
   put-number-below t,
