@@ -8,6 +8,8 @@ ghost use Prim.Native.Nat.{_+_, _*_, _≤_, _<_};
 ghost use lib.ListN.{length};
 ghost use Rattle.cases.specs.Limits.{longest, most-lent, chunk, most-digits};
 use libc::STDOUT_FILENO;
+use verdict::Four;
+use verdict::numbers;
 use writer::put_number;
 use writer::put_text;
 
@@ -79,6 +81,17 @@ fn put_spaced(out: &mut [u8], at: usize, n: u32) -> usize
     put_number(out, next, n)
 }
 
+// Puts each of the four numbers, after a space, at `at` and gives the place after them.
+fn put_four(out: &mut [u8], at: usize, v: Four) -> usize
+    requires { ⌜ at + 4 * (1 + most-digits) ≤ length (now out) ⌝ }
+    ensures { λ r. ⌜ r ≤ at + 4 * (1 + most-digits) ⌝ }
+{
+    let code = put_spaced(out, at, v.code as u32);
+    let file = put_spaced(out, code, v.file as u32);
+    let record = put_spaced(out, file, v.number as u32);
+    put_spaced(out, record, v.at)
+}
+
 // Writes a line: the first `end` bytes of `head`, and after a space `bytes` in hex, or nothing more where there are none.
 fn write_line(head: &mut [u8], end: usize, bytes: &[u8])
     requires { ⌜ end < length (now head) ⌝ }
@@ -97,7 +110,8 @@ fn write_line(head: &mut [u8], end: usize, bytes: &[u8])
 // The line that `judge` prints.
 fn write_verdict(problem: &[u8], answer: &[u8]) {
     let mut space = [0u8; line::ROOM];
-    let end = line::line(board::judge(problem, answer), &mut space);
+    let v = numbers(board::judge_files(problem, answer));
+    let end = line::line(v, &mut space);
     io::write_all(STDOUT_FILENO, &space[..end]);
 }
 
@@ -114,14 +128,11 @@ fn write_part(part: &[u8])
 
 // The line for the evidence that is made in the bytes lent.
 fn write_evidence(problem: &[u8], answer: &[u8], lent: &mut [u8]) {
-    let v = board::make_evidence(problem, answer, lent);
+    let v = numbers(board::evidence_files(problem, answer, lent));
     let mut space = [0u8; HEAD];
     let head: &mut [u8] = &mut space;
     let word = put_text(head, 0, b"evidence");
-    let code = put_spaced(head, word, (v % 256) as u32);
-    let file = put_spaced(head, code, (v / 256 % 256) as u32);
-    let record = put_spaced(head, file, (v / 65536 % 65536) as u32);
-    let end = put_spaced(head, record, (v / 4294967296) as u32);
+    let end = put_four(head, word, v);
     write_line(head, end, lent);
 }
 

@@ -1,10 +1,18 @@
 // judge PROBLEM ANSWER: judges two files and prints one line. What is printed is tested; everything else is in the libraries.
 ghost use mathlib.Core.Path.{_≡_};
+ghost use Prim.Native.Nat.{_≤_};
 ghost use lib.ListN.{length};
 ghost use Rattle.rules.specs.Sizes.{read-limit};
+ghost use Rattle.rules.specs.Verdict.{verdict, numbers};
+ghost use Rattle.rules.specs.Print.{line-of};
+ghost use Rattle.writer.specs.Appended.{Appended};
+ghost use Rattle.line.specs.Text.{room};
 ghost use Rattle.judge.specs.Loads.{Within};
+use board::judge_files;
 use layout::READ_LIMIT;
 use libc::STDOUT_FILENO;
+use line::line;
+use verdict::numbers;
 
 // The first bytes of a file, or that it can't be opened or read.
 enum Loaded {
@@ -43,10 +51,18 @@ fn load(i: usize, out: &mut [u8]) -> Loaded
     Loaded::Bytes(n + more)
 }
 
+// Puts the line for the verdict on the two files at the front of `out` and gives its length.
+fn put_verdict(problem: &[u8], answer: &[u8], out: &mut [u8]) -> usize
+    requires { ⌜ room ≤ length (now out) ⌝ }
+    ensures { λ r. ⌜ Appended (now (out .entry)) (now (out .exit)) 0 r (line-of (numbers (verdict (now (problem .entry)) (now (answer .entry))))) ⌝ }
+{
+    line(numbers(judge_files(problem, answer)), out)
+}
+
 // Prints the verdict on the two files.
 fn judge(problem: &[u8], answer: &[u8]) {
     let mut text = [0u8; line::ROOM];
-    let end = line::line(board::judge(problem, answer), &mut text);
+    let end = put_verdict(problem, answer, &mut text);
     io::write_all(STDOUT_FILENO, &text[..end]);
 }
 

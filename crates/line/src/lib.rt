@@ -1,10 +1,12 @@
 // The line that is printed for a verdict.
 ghost use mathlib.Core.List.{_++_};
-ghost use Prim.Native.Nat.{_+_, _≤_, _<_};
+ghost use Prim.Native.Nat.{_+_, _≤_};
 ghost use lib.ListN.{length};
+ghost use Rattle.rules.specs.Verdict.{four};
 ghost use Rattle.rules.specs.Print.{digits, space, line-of};
-ghost use Rattle.line.specs.Text.{room, numbers-room, four-numbers, unpacked};
+ghost use Rattle.line.specs.Text.{room, numbers-room, four-numbers};
 ghost use Rattle.writer.specs.Appended.{Appended};
+use verdict::Four;
 use writer::put_number;
 use writer::put_text;
 
@@ -21,24 +23,24 @@ fn put_spaced(out: &mut [u8], at: usize, n: u32) -> usize
 }
 
 // Puts the four numbers of a refusal, with single spaces, at `at` and gives the place after them.
-fn put_numbers(out: &mut [u8], at: usize, v: u64) -> usize
+fn put_numbers(out: &mut [u8], at: usize, v: Four) -> usize
     requires { ⌜ at + numbers-room ≤ length (now out) ⌝ }
-    ensures { λ r. ⌜ Appended (now (out .entry)) (now (out .exit)) at r (four-numbers (unpacked v)) ⌝ }
+    ensures { λ r. ⌜ Appended (now (out .entry)) (now (out .exit)) at r (four-numbers (four (v .code) (v .file) (v .number) (v .at))) ⌝ }
 {
-    let code = put_number(out, at, (v % 256) as u32);
-    let file = put_spaced(out, code, (v / 256 % 256) as u32);
-    let number = put_spaced(out, file, (v / 65536 % 65536) as u32);
-    put_spaced(out, number, (v / 4294967296) as u32)
+    let code = put_number(out, at, v.code as u32);
+    let file = put_spaced(out, code, v.file as u32);
+    let number = put_spaced(out, file, v.number as u32);
+    put_spaced(out, number, v.at)
 }
 
-// Puts the line of the verdict that `v` packs at the front of `out` and gives its length.
-pub fn line(v: u64, out: &mut [u8]) -> usize
+// Puts the line of a verdict, whose four numbers are given, at the front of `out` and gives its length.
+pub fn line(v: Four, out: &mut [u8]) -> usize
     requires { ⌜ room ≤ length (now out) ⌝ }
-    ensures { λ r. ⌜ Appended (now (out .entry)) (now (out .exit)) 0 r (line-of (unpacked v)) ⌝ }
+    ensures { λ r. ⌜ Appended (now (out .entry)) (now (out .exit)) 0 r (line-of (four (v .code) (v .file) (v .number) (v .at))) ⌝ }
 {
-    if v % 256 == 0 {
+    if v.code == 0 {
         let word = put_text(out, 0, b"pass ");
-        let end = put_number(out, word, (v / 4294967296) as u32);
+        let end = put_number(out, word, v.at);
         return put_text(out, end, b"\n");
     }
     let word = put_text(out, 0, b"refuse ");

@@ -3,8 +3,6 @@ use Rattle.rules.specs.Print.{digits, space}
 use Rattle.writer.specs.Appended.{appended-both}
 use Rattle.line.proofs.put_spaced.Statement.{statement}
 use Rattle.line.proofs.put_spaced.Tie as tie
-use Rattle.writer.proofs.put_number.Reads as put-number-reads
-use Rattle.writer.proofs.put_text.Reads as put-text-reads
 
 slice-aggregate-put-text : tie.Need-slice-aggregate-put-text
 slice-aggregate-put-text c = search needs
