@@ -1,4 +1,4 @@
-// judge PROBLEM ANSWER: judges two files and prints one line. What is printed is tested; everything else is in the libraries.
+// judge PROBLEM ANSWER: judges two files and prints one line. The line is proved, and that it is printed is tested.
 ghost use mathlib.Core.Path.{_≡_};
 ghost use Prim.Native.Nat.{_≤_};
 ghost use lib.ListN.{length};
@@ -11,7 +11,9 @@ ghost use Rattle.judge.specs.Loads.{Within};
 use board::judge_files;
 use layout::READ_LIMIT;
 use libc::STDOUT_FILENO;
+use line::ROOM;
 use line::line;
+use line::nofile;
 use verdict::numbers;
 
 // The first bytes of a file, or that it can't be opened or read.
@@ -61,8 +63,15 @@ fn put_verdict(problem: &[u8], answer: &[u8], out: &mut [u8]) -> usize
 
 // Prints the verdict on the two files.
 fn judge(problem: &[u8], answer: &[u8]) {
-    let mut text = [0u8; line::ROOM];
+    let mut text = [0u8; ROOM];
     let end = put_verdict(problem, answer, &mut text);
+    io::write_all(STDOUT_FILENO, &text[..end]);
+}
+
+// Prints that the file `file` can't be opened.
+fn no_file(file: u8) {
+    let mut text = [0u8; ROOM];
+    let end = nofile(file, &mut text);
     io::write_all(STDOUT_FILENO, &text[..end]);
 }
 
@@ -70,9 +79,7 @@ fn judge(problem: &[u8], answer: &[u8]) {
 fn with_problem(problem: &[u8]) {
     let mut answer = room();
     match load(2, &mut answer) {
-        Loaded::Missing => {
-            io::write_all(STDOUT_FILENO, b"nofile 1\n");
-        }
+        Loaded::Missing => no_file(1),
         Loaded::Bytes(n) => judge(problem, &answer[..n]),
     }
 }
@@ -80,9 +87,7 @@ fn with_problem(problem: &[u8]) {
 fn main() {
     let mut problem = room();
     match load(1, &mut problem) {
-        Loaded::Missing => {
-            io::write_all(STDOUT_FILENO, b"nofile 0\n");
-        }
+        Loaded::Missing => no_file(0),
         Loaded::Bytes(n) => with_problem(&problem[..n]),
     }
 }

@@ -1,5 +1,6 @@
--- The printed line in pieces, and how many bytes each takes.
---   numbers-room, room       what the four numbers need at most, and a line; room-reached: some line needs all of it
+-- The printed lines in pieces, and how many bytes each takes.
+--   numbers-room, room       what the four numbers need at most, and the line of a verdict; room-reached: some line needs all of it
+--   nofile-room              what the line for a file that can't be opened needs at most: nofile-room-reached
 --   four-numbers             the four numbers with single spaces: four-numbers-length
 --   line-passed, line-refused          the two kinds of line in pieces
 use mathlib.Core.Path.{_≡_, refl}
@@ -9,16 +10,20 @@ use native.Mathlib.Omega.{arith}
 use borrow.Author.Tests.{eq-eqb, ne-eqb}
 use lib.ListN.{length, length-append}
 use Rattle.rules.specs.Verdict.{Numbers, four}
-use Rattle.rules.specs.Print.{digits, digits-within, space, pass-word, refuse-word, line-of}
+use Rattle.rules.specs.Print.{digits, digits-within, space, pass-word, refuse-word, line-of, nofile-line}
 use Rattle.writer.specs.Decimal.{digits-byte, digits-short, digits-word}
 
 -- What the four numbers need at most: 3, 3, 5 and 10 digits, and three spaces.
 abbrev pub numbers-room : ℕ
 numbers-room = 24
 
--- What a line needs at most: `refuse`, a space, the four numbers and a line feed.
+-- What the line of a verdict needs at most: `refuse`, a space, the four numbers and a line feed.
 abbrev pub room : ℕ
 room = 7 + numbers-room + 1
+
+-- What the line for a file that can't be opened needs at most: `nofile`, a space, 3 digits and a line feed.
+abbrev pub nofile-room : ℕ
+nofile-room = 7 + 3 + 1
 
 -- The four numbers with single spaces.
 abbrev pub four-numbers : Numbers → List ℕ
@@ -41,3 +46,8 @@ line-refused v h = rw (ne-eqb (v .code) 0 h, line-of) (simp append-assoc)
 pub room-reached : length (line-of (four 255 255 65_535 4_294_967_295)) ≡ room
 unfolding line-of digits-within
 room-reached = refl
+
+-- So does that of the largest number of a file.
+pub nofile-room-reached : length (nofile-line 255) ≡ nofile-room
+unfolding nofile-line digits-within
+nofile-room-reached = refl

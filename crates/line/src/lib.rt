@@ -1,10 +1,10 @@
-// The line that is printed for a verdict.
+// The lines that the program `judge` prints: for a verdict, and for a file that can't be opened.
 ghost use mathlib.Core.List.{_++_};
 ghost use Prim.Native.Nat.{_+_, _≤_};
 ghost use lib.ListN.{length};
 ghost use Rattle.rules.specs.Verdict.{four};
-ghost use Rattle.rules.specs.Print.{digits, space, line-of};
-ghost use Rattle.line.specs.Text.{room, numbers-room, four-numbers};
+ghost use Rattle.rules.specs.Print.{digits, space, line-of, nofile-line};
+ghost use Rattle.line.specs.Text.{room, nofile-room, numbers-room, four-numbers};
 ghost use Rattle.writer.specs.Appended.{Appended};
 use verdict::Four;
 use writer::put_number;
@@ -46,4 +46,14 @@ pub fn line(v: Four, out: &mut [u8]) -> usize
     let word = put_text(out, 0, b"refuse ");
     let end = put_numbers(out, word, v);
     put_text(out, end, b"\n")
+}
+
+// Puts the line for the file `file`, which can't be opened, at the front of `out` and gives its length.
+pub fn nofile(file: u8, out: &mut [u8]) -> usize
+    requires { ⌜ nofile-room ≤ length (now out) ⌝ }
+    ensures { λ r. ⌜ Appended (now (out .entry)) (now (out .exit)) 0 r (nofile-line file) ⌝ }
+{
+    let word = put_text(out, 0, b"nofile ");
+    let number = put_number(out, word, file as u32);
+    put_text(out, number, b"\n")
 }

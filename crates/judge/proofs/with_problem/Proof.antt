@@ -3,10 +3,6 @@ use native.Mathlib.Omega.{arith}
 use Rattle.judge.specs.Loads.{within-bytes, part-length}
 use Rattle.judge.proofs.with_problem.Statement.{statement}
 use Rattle.judge.proofs.with_problem.Tie as tie
-use Rattle.io.proofs.write_all.Reads as write-all-reads
-use Rattle.judge.proofs.judge.Reads as judge-reads
-use Rattle.judge.proofs.load.Reads as load-reads
-use Rattle.judge.proofs.room.Reads as room-reads
 
 room-requires : tie.Need-room-requires
 room-requires c κs = search needs
@@ -20,11 +16,8 @@ load-requires c κs = search needs
 enum-told : tie.Need-enum-told
 enum-told c = search needs
 
-slice-aggregate-write-all : tie.Need-slice-aggregate-write-all
-slice-aggregate-write-all c = search needs
-
-write-all-requires : tie.Need-write-all-requires
-write-all-requires c κs = search needs
+no-file-requires : tie.Need-no-file-requires
+no-file-requires c κs = search needs
 
 enum-known-n : tie.Need-enum-known-n
 enum-known-n c = search needs
@@ -60,8 +53,7 @@ with-problem-spec =
     slice-aggregate-load
     load-requires
     enum-told
-    slice-aggregate-write-all
-    write-all-requires
+    no-file-requires
     enum-known-n
     array-share-prefix-answer
     slice-aggregate-judge
