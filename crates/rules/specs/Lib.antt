@@ -10,11 +10,13 @@ pub mod Conditions
 pub mod Verdict
 pub mod Evidence
 pub mod Part
+pub mod Drawn
 pub mod Print
 pub mod Inverse
 pub mod Run
 pub mod Cases
 pub mod Requested
+pub mod DrawnCases
 pub mod BoolLaws
 pub mod SearchLaws
 pub mod DegreeLaws
