@@ -2,6 +2,8 @@ pub mod Plain
 pub mod Bridge
 pub mod Generating
 pub mod Verdicts
+pub mod Drawings
+pub mod DrawnMeaning
 pub mod Meaning
 pub mod Least
 pub mod LeastDegrees
