@@ -27,3 +27,8 @@ pub mod TwoBases
 pub mod Converse
 pub mod OrderBasis
 pub mod Examples
+pub mod Clearing
+pub mod Step
+pub mod StepDegrees
+pub mod StepRank
+pub mod StepBasis
