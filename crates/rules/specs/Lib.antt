@@ -42,3 +42,5 @@ pub mod EvidenceLaws
 pub mod ReadLengths
 pub mod VerdictLaws
 pub mod PartLaws
+pub mod Maker
+pub mod MakerCases

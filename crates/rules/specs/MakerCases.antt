@@ -1,0 +1,61 @@
+-- Answers made for document 01's problem of two rows, and what the judge says of them: worked by computation.
+--   run-made                 what is made for a problem, with all that it takes to compute it opened
+--   two-rows-made            P, C and the steps done, after 0 to 3 steps allowed
+--   two-rows-passed          the verdicts on the files written, for the problem cut to the steps done
+use mathlib.Core.Path.{_≡_, refl}
+use mathlib.Core.List.{[], _∷_, map}
+use Prim.Native.Nat.{ℕ}
+use lib.IntN.{pos, negsuc}
+use Rattle.algebra.specs.Sum.{sum, replace}
+use Rattle.algebra.specs.Residue.{red}
+use Rattle.algebra.specs.Series.{convolve, constant, shift}
+use Rattle.algebra.specs.Matrix.{cons, unit, vmul, mmul}
+use Rattle.algebra.specs.Step.{cleared, next}
+use Rattle.rules.specs.Claim.{Problem}
+use Rattle.rules.specs.Matrices.{product}
+use Rattle.rules.specs.Conditions.{some-below, first-below, max-below, degree-of, shifted-degree-of, largest, row-degree-of}
+use Rattle.rules.specs.Writer.{write-problem, write-answer}
+use Rattle.rules.specs.Verdict.{Numbers, four}
+use Rattle.rules.specs.Evidence.{table, evidence-of}
+use Rattle.rules.specs.Run.{run-verdict}
+use Rattle.rules.specs.Cases.{two-by-one}
+use Rattle.rules.specs.Maker.{lower-left, next-row, first-some, find-constants, depends, take-row, take-rows, chosen, trimmed, listed, list-matrix}
+use Rattle.rules.specs.Maker.{make-step, basis-after, steps-done, cut-problem, answer-after, MadeAnswer, make-answer}
+
+-- What is made.
+unfoldable pub run-made : Problem → ℕ → MadeAnswer
+unfolding sum replace red convolve constant shift cons unit vmul mmul cleared next product some-below first-below max-below degree-of
+    shifted-degree-of largest row-degree-of table evidence-of lower-left next-row first-some find-constants depends take-row take-rows
+    chosen trimmed listed list-matrix make-step basis-after steps-done cut-problem answer-after make-answer
+run-made b steps = make-answer b steps
+
+-- The four numbers of the verdict on what is made, for the problem cut to the steps done.
+unfoldable pub run-made-verdict : Problem → ℕ → Numbers
+unfolding run-made run-verdict
+run-made-verdict b steps =
+    let made : MadeAnswer = run-made b steps in
+    run-verdict (write-problem (cut-problem b (made .done))) (write-answer (made .answer))
+
+-- p = 7, order 2, shifts 0 and 0, F rows 1 and 1 + X.
+abbrev two-rows : Problem
+two-rows = two-by-one (pos 0) (pos 0) 0 1 .problem
+
+-- With 0 steps P is the identity and C zero. Step 0 takes row 0 for its pivot and subtracts it from row 1; step 1 takes row 1, which is
+-- lower, and subtracts it from row 0. Then the largest order is reached.
+pub two-rows-made : map (run-made two-rows) (0 ∷ 1 ∷ 2 ∷ 3 ∷ [])
+    ≡ record { answer = record { P = ((1 ∷ []) ∷ [] ∷ []) ∷ ([] ∷ (1 ∷ []) ∷ []) ∷ []; C = (0 ∷ []) ∷ (0 ∷ []) ∷ [] }; done = 0 }
+    ∷ record { answer = record { P = ((0 ∷ 1 ∷ []) ∷ [] ∷ []) ∷ ((6 ∷ []) ∷ (1 ∷ []) ∷ []) ∷ []; C = (1 ∷ []) ∷ (0 ∷ []) ∷ [] }; done = 1 }
+    ∷ record { answer = record { P = ((1 ∷ 1 ∷ []) ∷ (6 ∷ []) ∷ []) ∷ ((0 ∷ 6 ∷ []) ∷ (0 ∷ 1 ∷ []) ∷ []) ∷ []; C = (0 ∷ []) ∷ (1 ∷ []) ∷ [] }; done = 2 }
+    ∷ record { answer = record { P = ((1 ∷ 1 ∷ []) ∷ (6 ∷ []) ∷ []) ∷ ((0 ∷ 6 ∷ []) ∷ (0 ∷ 1 ∷ []) ∷ []) ∷ []; C = (0 ∷ []) ∷ (1 ∷ []) ∷ [] }; done = 2 }
+    ∷ []
+unfolding run-made
+two-rows-made = refl
+
+-- The judge passes what is made after 1 and after 2 steps, for the problem cut to them; so with other shifts, where other rows are lower.
+pub two-rows-passed : map (run-made-verdict two-rows) (1 ∷ 2 ∷ []) ≡ four 0 0 0 1 ∷ four 0 0 0 2 ∷ []
+unfolding run-made-verdict
+two-rows-passed = refl
+
+pub shifted-rows-passed : map (run-made-verdict (two-by-one (pos 5) (negsuc 2) 0 1 .problem)) (1 ∷ 2 ∷ []) ≡ four 0 0 0 1 ∷ four 0 0 0 2 ∷ []
+unfolding run-made-verdict
+shifted-rows-passed = refl
