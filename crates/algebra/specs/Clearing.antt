@@ -4,19 +4,23 @@
 --   vmul-neg                 the product of the negative of a row
 --   Clears, less             constants that subtract pivot rows from the other rows, and the identity less them
 --   det-less                 its determinant is not 0
+--   row-of-others            a row that has a constant other than 0 in a combination to zero is a combination of the others
 use mathlib.Core.Path.{_≡_, refl, sym, ap, ap₂, _∙_}
 use mathlib.Core.Logic.{_≢_}
 use mathlib.Core.Bool.{Bool, true, false}
+use mathlib.Core.List.{[], _∷_}
 use Prim.Native.Nat.{ℕ, zero, suc, _<_}
+use native.Mathlib.Decide.{ℕ-discrete}
 use Rattle.algebra.specs.Ring as Ring
-use Rattle.algebra.specs.Ring.{CommRing, Nontrivial}
-use Rattle.algebra.specs.Sum.{sum-cong, mul-sum, neg-sum, skip}
-use Rattle.algebra.specs.Matrix.{Row, Matrix, unit, vmul, mmul, vmul-unit, unit-vmul, vmul-add}
+use Rattle.algebra.specs.Ring.{CommRing, Nontrivial, Inverts}
+use Rattle.algebra.specs.Solver.{v0, v1, v2, _⊞_, _⊠_, ⊟_, ring}
+use Rattle.algebra.specs.Sum.{sum, sum-cong, mul-sum, neg-sum, sum-replace, skip, replace, replace-at, replace-other}
+use Rattle.algebra.specs.Matrix.{Row, Matrix, unit, vmul, mmul, vmul-unit, unit-vmul, vmul-add, vmul-scale}
 use Rattle.algebra.specs.Det.{minor, det, det-local, det-unit}
 use Rattle.algebra.specs.ProductRule.{det-mul}
 
 module _ (R : CommRing) where
-  open CommRing R using (C, 𝟘, 𝟙, _⊕_, _⊗_, ⊖_, add-zero, mul-assoc, mul-one)
+  open CommRing R using (C, 𝟘, 𝟙, _⊕_, _⊗_, ⊖_, add-zero, add-neg, mul-assoc, mul-one)
 
   infixl 60 _⊕_
   infixl 70 _⊗_
@@ -91,3 +95,30 @@ module _ (R : CommRing) where
         ∙ det-mul R m (less w) (less (λ i q. ⊖ w i q))
         ∙ ap (λ x. x ⊗ det R m (less (λ i q. ⊖ w i q))) z
         ∙ Ring.zero-mul R (det R m (less (λ i q. ⊖ w i q))))
+
+  -- A row that has a constant other than 0 in a combination of rows to zero is a combination of the others.
+  pub row-of-others : (inv : C → C) → Inverts R inv → (m i : ℕ) → i < m → (u : Row R) (A : Matrix R) (j : ℕ) → u i ≢ 𝟘 → vmul R m u A j ≡ 𝟘
+      → A i j ⊕ ⊖ vmul R m (λ q. ⊖ inv (u i) ⊗ replace i 𝟘 u q) A j ≡ 𝟘
+  unfolding vmul
+  row-of-others inv inverts m i hi u A j ne combined =
+      ap (λ x. A i j ⊕ ⊖ x) (vmul-scale R m (⊖ inv (u i)) (replace i 𝟘 u) A j ∙ ap (λ x. ⊖ inv (u i) ⊗ x) rest)
+      ∙ ring R (A i j ∷ inv (u i) ∷ u i ∷ []) (v0 ⊞ ⊟ (⊟ v1 ⊠ ⊟ (v2 ⊠ v0))) (v0 ⊞ ⊟ (v2 ⊠ v1 ⊠ v0)) refl
+      ∙ ap (λ x. A i j ⊕ ⊖ (x ⊗ A i j)) (inverts (u i) ne)
+      ∙ ap (λ x. A i j ⊕ ⊖ x) (Ring.one-mul R (A i j))
+      ∙ add-neg (A i j)
+    where
+      term : ℕ → C
+      term q = u q ⊗ A q j
+
+      at : (q : ℕ) → Dec (q ≡ i) → replace i 𝟘 u q ⊗ A q j ≡ replace i 𝟘 term q
+      at q (yes e) =
+          ap (λ x. x ⊗ A q j) (ap (replace i 𝟘 u) e ∙ replace-at i 𝟘 u) ∙ Ring.zero-mul R (A q j) ∙ sym (ap (replace i 𝟘 term) e ∙ replace-at i 𝟘 term)
+      at q (no nq) = ap (λ x. x ⊗ A q j) (replace-other i 𝟘 u q nq) ∙ sym (replace-other i 𝟘 term q nq)
+
+      rest : vmul R m (replace i 𝟘 u) A j ≡ ⊖ (u i ⊗ A i j)
+      rest =
+          Ring.neg-unique R (vmul R m (replace i 𝟘 u) A j) (u i ⊗ A i j)
+          (ap (λ x. x ⊕ term i) (sum-cong R m (λ q. replace i 𝟘 u q ⊗ A q j) (replace i 𝟘 term) (λ q b. at q (ℕ-discrete q i)))
+          ∙ sum-replace R m i 𝟘 term hi
+          ∙ add-zero (sum R m term)
+          ∙ combined)

@@ -1,26 +1,26 @@
 -- What the basis iteration keeps: the identity has it, each step keeps it, and it does not depend on F from the orders on.
 --   identity-basis, step-basis, cut-basis       these three
 --   basis-row-degree         the degrees are those of the rows
+--   choice-local, basis-local        what a choice and a basis depend on
 use mathlib.Core.Path.{_≡_, refl, sym, ap, ap₂, subst, _∙_}
 use mathlib.Core.Logic.{inl, inr}
-use mathlib.Core.Bool.{Bool}
+use mathlib.Core.Bool.{Bool, true}
 use mathlib.Core.List.{[], _∷_}
 use Prim.Native.Nat.{ℕ, zero, suc, _+_, _<_}
 use native.Mathlib.Nat.{zero-add as nat-zero-add}
 use native.Mathlib.Omega.{arith}
-use lib.IntN.{ℤ, pos, _+ℤ_}
+use lib.IntN.{ℤ, pos, _+ℤ_, _-ℤ_}
 use Rattle.algebra.specs.Ring as Ring
 use Rattle.algebra.specs.Ring.{CommRing, Decides, Cancels, Nontrivial}
 use Rattle.algebra.specs.Solver.{v0, v1, v2, _⊞_, _⊠_, ⊟_, ring}
 use Rattle.algebra.specs.Sum.{sum, sum-cong, sum-add, zeros-or-not}
 use Rattle.algebra.specs.Series.{Series, convolve-single, constant}
-use Rattle.algebra.specs.Matrix.{Row, Matrix, unit, vmul, mmul, vmul-unit, vmul-cong}
+use Rattle.algebra.specs.Matrix.{Row, Matrix, Same, beside, beside-same, unit, vmul, mmul, vmul-unit, vmul-cong}
 use Rattle.algebra.specs.Matrix.{vmul-zero, vmul-assoc, unit-related}
 use Rattle.algebra.specs.Det.{det-local, det-unit}
 use Rattle.algebra.specs.Adjugate.{det-zero-row}
-use Rattle.algebra.specs.Dependence.{Combines, Independent, combines-beside}
-use Rattle.algebra.specs.Degree.{coefficient, leading}
-use Rattle.algebra.specs.Degree.{coefficient-sum}
+use Rattle.algebra.specs.Dependence.{Combines, Independent, independent-local, combines-beside}
+use Rattle.algebra.specs.Degree.{AtMost, coefficient, leading, coefficient-sum}
 use Rattle.algebra.specs.Predictable.{RowDegree}
 use Rattle.algebra.specs.OrderBasis.{Monomial}
 use Rattle.algebra.specs.Step.{once, next, residuals, Choice, Basis}
@@ -123,3 +123,35 @@ module _ (R : CommRing) where
       | inr found ↦ found
     ],
   )
+
+  -- A choice depends on the residuals in the active columns alone, …
+  pub choice-local : (m n : ℕ) (active : ℕ → Bool) (r r′ : ℕ → ℤ) (A A′ : Matrix R) (pivot : ℕ → Bool) (w : Matrix R)
+      → ((i : ℕ) → i < m → r i ≡ r′ i) → ((i j : ℕ) → i < m → j < n → active j ≡ true → A i j ≡ A′ i j)
+      → Choice R m n active r A pivot w → Choice R m n active r′ A′ pivot w
+  choice-local m n active r r′ A A′ pivot w degrees same choice = record {
+    clears = choice .clears;
+    none-higher = λ i q hi hq ne. let (k, e) = choice .none-higher i q hi hq ne in (k, sym (degrees i hi) ∙ e ∙ ap (λ x. x +ℤ pos k) (degrees q hq));
+    clean = λ i j hi hj p a.
+        ap₂ (λ x y. x ⊕ ⊖ y) (sym (same i j hi hj a)) (sym (column (w i) j hj a)) ∙ choice .clean i j hi hj p a;
+    independent = λ u others combined. choice .independent u others (λ j hj a. column u j hj a ∙ combined j hj a);
+  }
+    where
+      column : (u : Row R) (j : ℕ) → j < n → active j ≡ true → vmul R m u A j ≡ vmul R m u A′ j
+      column u j hj a = vmul-cong R m u u A A′ j (λ i hi. refl) (λ i hi. same i j hi hj a)
+
+  -- … and what holds of P on the orders, the degrees and the entries within its size.
+  pub basis-local : (m n : ℕ) (F : Matrix (Series R)) (s : ℕ → ℤ) (e e′ : ℕ → ℕ) (r r′ : ℕ → ℤ) (P P′ : Matrix (Series R))
+      → ((j : ℕ) → j < n → e j ≡ e′ j) → ((i : ℕ) → i < m → r i ≡ r′ i) → Same (Series R) m m P P′ → Basis R m n F s e r P → Basis R m n F s e′ r′ P′
+  basis-local m n F s e e′ r r′ P P′ orders degrees same basis = record {
+    bounded = λ i j hi hj. subst (λ x. AtMost R (x -ℤ s j) (P′ i j)) (degrees i hi) (subst (AtMost R (r i -ℤ s j)) (same i j hi hj) (basis .bounded i j hi hj));
+    nonsingular = λ z. basis .nonsingular (det-local R m (leading R r s P) (leading R r′ s P′)
+        (λ i j hi hj. ap₂ (λ x f. coefficient R (x -ℤ s j) f) (degrees i hi) (same i j hi hj)) ∙ z);
+    monomial = subst (Monomial R) (det-local (Series R) m P P′ same) (basis .monomial);
+    vanishes = λ i hi j k hj hk. sym (ap (λ f. f k) (row i j hi)) ∙ basis .vanishes i hi j k hj (subst (λ x. k < x) (sym (orders j hj)) hk);
+    full-rank = independent-local R m (m + n) (beside m (λ i j. P i j zero) (residuals R m F e P)) (beside m (λ i j. P′ i j zero) (residuals R m F e′ P′))
+        (beside-same R m m n (λ i j. P i j zero) (λ i j. P′ i j zero) (residuals R m F e P) (residuals R m F e′ P′)
+        (λ i j hi hj. ap (λ f. f zero) (same i j hi hj)) (λ i j hi hj. ap₂ (λ f k. f k) (row i j hi) (orders j hj))) (basis .full-rank);
+  }
+    where
+      row : (i j : ℕ) → i < m → vmul (Series R) m (P i) F j ≡ vmul (Series R) m (P′ i) F j
+      row i j hi = vmul-cong (Series R) m (P i) (P′ i) F F j (λ k hk. same i k hi hk) (λ k hk. refl)

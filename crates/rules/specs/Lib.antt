@@ -44,3 +44,4 @@ pub mod VerdictLaws
 pub mod PartLaws
 pub mod Maker
 pub mod MakerCases
+pub mod ChosenLaws
