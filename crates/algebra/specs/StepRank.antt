@@ -1,11 +1,12 @@
 -- After a step the product with F vanishes below the orders that it raises, and the rows of [P(0) C] are independent again.
 --   vmul-zeros, vmul-sum     a row of constants times a column of zeros, and times a sum of matrices
+--   next-below               the entries are at most one coefficient longer
 --   next-vanishes            the product
 --   next-full-rank           the rank
 use mathlib.Core.Path.{_≡_, refl, sym, ap, ap₂, subst, _∙_}
 use mathlib.Core.Bool.{Bool, true, false}
 use Prim.Native.Nat.{ℕ, zero, suc, _+_, _≤_, _<_, zero-le}
-use native.Mathlib.Nat.{le-refl, le-of-suc-le-suc, add-zero as nat-add-zero}
+use native.Mathlib.Nat.{le-refl, le-of-lt, le-of-suc-le-suc, add-zero as nat-add-zero}
 use native.Mathlib.Numerals.{add-one}
 use native.Mathlib.Decide.{decLt}
 use native.Mathlib.Omega.{arith}
@@ -15,6 +16,7 @@ use Rattle.algebra.specs.Ring.{CommRing}
 use Rattle.algebra.specs.Sum.{sum, sum-cong, sum-zero, sum-add}
 use Rattle.algebra.specs.Series.{Series}
 use Rattle.algebra.specs.Series.{shift}
+use Rattle.algebra.specs.Polynomial.{Below}
 use Rattle.algebra.specs.Matrix.{Row, Matrix, beside, unit, vmul, mmul, vmul-unit, unit-vmul, vmul-add}
 use Rattle.algebra.specs.Matrix.{vmul-zero, vmul-assoc}
 use Rattle.algebra.specs.Dependence.{Combines, Independent, combines-beside}
@@ -49,6 +51,17 @@ module _ (R : CommRing) where
   cleared-zero : (m : ℕ) (w : Matrix R) (M : Matrix (Series R)) (i j k : ℕ) → i < m → ((q : ℕ) → q < m → M q j k ≡ 𝟘) → cleared R m w M i j k ≡ 𝟘
   unfolding cleared
   cleared-zero m w M i j k hi zeros = ap₂ (λ x y. x ⊕ ⊖ y) (zeros i hi) (vmul-zeros m (w i) (λ q j. M q j k) j zeros) ∙ add-neg 𝟘
+
+  -- A step makes the entries at most one coefficient longer.
+  pub next-below : (m : ℕ) (pivot : ℕ → Bool) (w : Matrix R) (M : Matrix (Series R)) (d j : ℕ) → ((i : ℕ) → i < m → Below R d (M i j))
+      → (i : ℕ) → i < m → Below R (suc d) (next R m pivot w M i j)
+  unfolding next shift
+  next-below m pivot w M d j below i hi = by (pivot i)
+    where
+      by : (p : Bool) → Below R (suc d) (shift R (once p) (cleared R m w M i j))
+      by true zero h = refl
+      by true (suc k) h = cleared-zero m w M i j k hi (λ q hq. below q hq k (le-of-suc-le-suc h))
+      by false k h = cleared-zero m w M i j k hi (λ q hq. below q hq k (le-of-lt h))
 
   -- A row of constants times M less w·M, for any matrix of constants.
   vmul-less : (m : ℕ) (u : Row R) (w M : Matrix R) (j : ℕ) → vmul R m (vmul R m u (less R w)) M j ≡ sum R m (λ i. u i ⊗ (M i j ⊕ ⊖ vmul R m (w i) M j))

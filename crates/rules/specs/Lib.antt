@@ -44,4 +44,9 @@ pub mod VerdictLaws
 pub mod PartLaws
 pub mod Maker
 pub mod MakerCases
+pub mod FindLaws
+pub mod RowOrder
 pub mod ChosenLaws
+pub mod ListedLaws
+pub mod MakerLaws
+pub mod MakerPasses
