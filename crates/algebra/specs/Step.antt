@@ -15,14 +15,11 @@ use lib.IntN.{ℤ, pos}
 use Rattle.algebra.specs.Ring.{CommRing, power}
 use Rattle.algebra.specs.Integer.{More}
 use Rattle.algebra.specs.Sum.{sum-cong}
-use Rattle.algebra.specs.Series.{Series, series-ext, constant, constant-mul}
-use Rattle.algebra.specs.Series.{shift, X, shift-power}
-use Rattle.algebra.specs.Matrix.{Row, Matrix, beside, unit, vmul, mmul, unit-vmul, vmul-cong, vmul-add, vmul-scale}
-use Rattle.algebra.specs.Matrix.{vmul-assoc}
+use Rattle.algebra.specs.Series.{Series, series-ext, constant, constant-mul, shift, X, shift-power}
+use Rattle.algebra.specs.Matrix.{Row, Matrix, beside, unit, vmul, mmul, unit-vmul, vmul-cong, vmul-add, vmul-scale, vmul-assoc}
 use Rattle.algebra.specs.Det.{det}
 use Rattle.algebra.specs.Dependence.{Independent}
-use Rattle.algebra.specs.Degree.{coefficient, leading, EntriesAtMost}
-use Rattle.algebra.specs.Degree.{coefficient-sum}
+use Rattle.algebra.specs.Degree.{coefficient, leading, EntriesAtMost, coefficient-sum}
 use Rattle.algebra.specs.OrderBasis.{Vanishes, Monomial}
 use Rattle.algebra.specs.Clearing.{vmul-neg, Clears, less}
 
@@ -106,6 +103,7 @@ module _ (R : CommRing) where
       ∙ vmul-assoc (Series R) m m (lessₛ w i) P F j
       ∙ sym (cleared-is m w (mmul (Series R) m P F) i j hi)
 
+  -- The product of the next matrix and F is the next of the product.
   pub next-product : (m : ℕ) (pivot : ℕ → Bool) (w : Matrix R) (P F : Matrix (Series R)) (i j : ℕ) → i < m
       → vmul (Series R) m (next m pivot w P i) F j ≡ next m pivot w (mmul (Series R) m P F) i j
   unfolding next

@@ -15,8 +15,7 @@ use Rattle.algebra.specs.Ring.{CommRing, Decides, Cancels, Nontrivial}
 use Rattle.algebra.specs.Solver.{v0, v1, v2, _⊞_, _⊠_, ⊟_, ring}
 use Rattle.algebra.specs.Sum.{sum, sum-cong, sum-add, zeros-or-not}
 use Rattle.algebra.specs.Series.{Series, convolve-single, constant}
-use Rattle.algebra.specs.Matrix.{Row, Matrix, Same, beside, beside-same, unit, vmul, mmul, vmul-unit, vmul-cong}
-use Rattle.algebra.specs.Matrix.{vmul-zero, vmul-assoc, unit-related}
+use Rattle.algebra.specs.Matrix.{Row, Matrix, Same, beside, beside-same, unit, vmul, mmul, vmul-unit, vmul-cong, vmul-zero, vmul-assoc, unit-related}
 use Rattle.algebra.specs.Det.{det-local, det-unit}
 use Rattle.algebra.specs.Adjugate.{det-zero-row}
 use Rattle.algebra.specs.Dependence.{Combines, Independent, independent-local, combines-beside}

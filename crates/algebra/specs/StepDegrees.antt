@@ -19,8 +19,7 @@ use Rattle.algebra.specs.Integer.{Integers, More}
 use Rattle.algebra.specs.Series.{Series, constant, constant-mul, constant-zero, constant-add, constant-product, constant-neg}
 use Rattle.algebra.specs.Series.{shift, X, shift-suc, shift-power, shift-below, shift-above}
 use Rattle.algebra.specs.Polynomial.{below-X}
-use Rattle.algebra.specs.Matrix.{Matrix, unit, unit-diagonal, unit-off, vmul, mmul, vmul-cong}
-use Rattle.algebra.specs.Matrix.{unit-related}
+use Rattle.algebra.specs.Matrix.{Matrix, unit, unit-diagonal, unit-off, vmul, mmul, vmul-cong, unit-related}
 use Rattle.algebra.specs.Det.{det, det-local, det-related}
 use Rattle.algebra.specs.ProductRule.{det-mul}
 use Rattle.algebra.specs.Degree.{AtMost, coefficient, Lead, leading, EntriesAtMost, at-most-zeros, coefficient-zeros, at-most-constant}
@@ -39,8 +38,6 @@ module _ (R : CommRing) where
   infixl 60 _⊞ₛ_
   infixl 70 _⊠ₛ_
   infix 80 ⊟ₛ_
-  -- THE DETERMINANT
-
   -- The constants are a copy of the ring.
   pub constants-related : RingRelation R (Series R) (λ a f. f ≡ constant R a)
   constants-related = record {
@@ -51,6 +48,7 @@ module _ (R : CommRing) where
     rel-neg = λ {a} p. ap (λ x. ⊟ₛ x) p ∙ sym (constant-neg R a);
   }
 
+  -- The determinant of the identity less constants is a constant.
   det-lessₛ : (m : ℕ) (w : Matrix R) → det (Series R) m (lessₛ R w) ≡ constant R (det R m (less R w))
   unfolding less
   det-lessₛ m w =
@@ -88,6 +86,7 @@ module _ (R : CommRing) where
     λ k nk. constant-mul R c f k ∙ ap (λ x. c ⊗ x) (others k nk) ∙ Ring.mul-zero R c,
   )
 
+  -- A step keeps the determinant a nonzero constant times a power of X.
   pub next-monomial : Cancels R → Nontrivial R → (m : ℕ) (pivot : ℕ → Bool) (w : Matrix R) → Clears R m pivot w → (P : Matrix (Series R))
       → Monomial R (det (Series R) m P) → Monomial R (det (Series R) m (next R m pivot w P))
   unfolding next
@@ -186,6 +185,7 @@ module _ (R : CommRing) where
           (λ q hq. less-lead i q hi hq .1) (λ q hq. refl))
           (vmul-degree R m m r s P bounded (lessₛ R w i) (r i) (λ q hq. less-lead i q hi hq .0) j hj))))
 
+      -- So the leading matrix stays nonsingular.
       pub next-nonsingular : Cancels R → Nontrivial R → det R m (leading R r s P) ≢ 𝟘
           → det R m (leading R (λ i. r i +ℤ pos (once (pivot i))) s (next R m pivot w P)) ≢ 𝟘
       next-nonsingular cancels nontrivial nonsingular z =

@@ -14,16 +14,15 @@ use lib.IntN.{ℤ}
 use Rattle.algebra.specs.Ring as Ring
 use Rattle.algebra.specs.Ring.{CommRing}
 use Rattle.algebra.specs.Sum.{sum, sum-cong, sum-zero, sum-add}
-use Rattle.algebra.specs.Series.{Series}
-use Rattle.algebra.specs.Series.{shift}
+use Rattle.algebra.specs.Series.{Series, shift}
 use Rattle.algebra.specs.Polynomial.{Below}
-use Rattle.algebra.specs.Matrix.{Row, Matrix, beside, unit, vmul, mmul, vmul-unit, unit-vmul, vmul-add}
-use Rattle.algebra.specs.Matrix.{vmul-zero, vmul-assoc}
+use Rattle.algebra.specs.Matrix.{Row, Matrix, beside, unit, vmul, mmul, vmul-unit, unit-vmul, vmul-add, vmul-zero, vmul-assoc}
 use Rattle.algebra.specs.Dependence.{Combines, Independent, combines-beside}
 use Rattle.algebra.specs.OrderBasis.{Vanishes}
 use Rattle.algebra.specs.Clearing.{vmul-neg, less}
 use Rattle.algebra.specs.Step.{once, cleared, next, residuals, Choice, next-product}
 
+-- A step raises by 1 at most.
 once-most : (b : Bool) → once b ≤ 1
 once-most true = le-refl 1
 once-most false = zero-le
@@ -34,8 +33,6 @@ module _ (R : CommRing) where
   infixl 60 _⊕_
   infixl 70 _⊗_
   infix 80 ⊖_
-  -- THE PRODUCT AND THE RANK
-
   -- A row of constants times a column of zeros, and times a sum of matrices.
   pub vmul-zeros : (m : ℕ) (v : Row R) (A : Matrix R) (j : ℕ) → ((i : ℕ) → i < m → A i j ≡ 𝟘) → vmul R m v A j ≡ 𝟘
   unfolding vmul
@@ -201,6 +198,7 @@ module _ (R : CommRing) where
                   ∙ add-zero (Q i j (e j))))
               by i hi false p = ap₂ (λ x y. x ⊗ y) (others i hi p) refl ∙ Ring.zero-mul R _ ∙ sym (ap₂ (λ x y. x ⊗ y) (others i hi p) refl ∙ Ring.zero-mul R _)
 
+      -- So u is 0: the rows of [P(0) C] are independent after the step as before.
       pub next-full-rank : Independent R m (m + n) (beside m (λ i j. P i j zero) (residuals R m F e P))
           → Independent R m (m + n) (beside m (λ i j. next R m pivot w P i j zero) (residuals R m F (λ j. e j + once (active j)) (next R m pivot w P)))
       unfolding Independent
