@@ -16,7 +16,7 @@ use Rattle.rules.specs.Sizes.{largest-prime, most-rows, most-order, most
 use Rattle.rules.specs.Reader.{Reader, Result, got, _>>=_, _>>_, give, field, mark, unless, inside, each, end, front, next}
 use Rattle.rules.specs.Claim.{Problem, Answer, Claim}
 
--- No number from 2 on, of the k before p, divides p.
+-- No number from 2 to k divides p.
 unfoldable pub no-divisor : ℕ → ℕ → Bool
 no-divisor p zero = true
 no-divisor p (suc k) = elim (leb (suc k) 1) [ true ↦ true | false ↦ elim (eqb (p % suc k) 0) [ true ↦ false | false ↦ no-divisor p k ] ]
