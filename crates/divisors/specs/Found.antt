@@ -1,11 +1,12 @@
 -- What a search for divisors answers.
 --   Found                    true with a number that is such, false if none is
 --   found-one, found-none    the two answers
+--   found-unique             two answers to the same search are equal
 --   block                    how many numbers a block of a table has
 --   InBlock                  a place of a block whose number divides p
 --   InTable                  a place of a table whose number divides p, in a block that starts with a number whose square is at most p
 --   OddDivisor               an odd divisor of p from some number on, with a square of at most p
-use mathlib.Core.Path.{_≡_}
+use mathlib.Core.Path.{_≡_, refl}
 use mathlib.Core.Bool.{Bool, true, false, true≢false, false≢true}
 use mathlib.Core.List.{List}
 use Prim.Native.Nat.{ℕ, _+_, _*_, _/_, _%_, _≤_, _<_, _∣_}
@@ -21,6 +22,12 @@ found-one i h = record { some = λ e. (i, h); none = λ e. absurd (true≢false 
 
 pub found-none : {Such : ℕ → Type 0} → ((i : ℕ) → ¬ Such i) → Found Such false
 found-none h = record { some = λ e. absurd (false≢true e); none = λ e. h }
+
+pub found-unique : {Such : ℕ → Type 0} (r s : Bool) → Found Such r → Found Such s → r ≡ s
+found-unique true true f g = refl
+found-unique true false f g = let (i, h) = f .some refl in absurd (g .none refl i h)
+found-unique false true f g = let (i, h) = g .some refl in absurd (f .none refl i h)
+found-unique false false f g = refl
 
 -- The numbers of a block of a table.
 abbrev pub block : ℕ

@@ -1,4 +1,3 @@
 pub mod Found
 pub mod Quotient
 pub mod Table
-pub mod Unique

@@ -1,5 +1,4 @@
 pub mod Flat
 pub mod Holds
 pub mod Settles
-pub mod Unique
 pub mod Words

@@ -2,10 +2,13 @@
 --   place, refusal           the code's place and refusal
 --   taken                    what one field gives
 --   going                    what several fields give, with what they left in the room lent
+--   place-one, refusal-one, taken-one    one of the code for each of the rules
+use mathlib.Core.Path.{_≡_, refl, sym, ap, ap₂}
 use mathlib.Core.Bool.{cond}
 use Prim.Native.Nat.{ℕ, _+_, _<_}
 use lib.Dec.{eqb}
 use Rattle.rules.specs.Reader.{Place, Refusal, Result, refused, got}
+use Rattle.rules.specs.ReaderLaws.{got-not-refused}
 use Rattle.place.specs.declared.Place.{Place as Spot}
 use Rattle.place.specs.declared.Stop.{Stop}
 use Rattle.place.specs.declared.Field.{Field}
@@ -46,3 +49,22 @@ Numbered (Off x) = Unit {0}
 -- After the last record of a file of that length: its end, or refusal 8.
 abbrev pub finish-of : ℕ → Spot → Going
 finish-of n q = cond (eqb (q .at) n) (On q) (Off (record { code = 8; place = opened-at q }))
+
+-- The rules' places, refusals and results of a field tell the code's apart.
+pub place-one : (q r : Spot) → place q ≡ place r → q ≡ r
+place-one q r e = λ i. record { file = e i .file; number = e i .number; start = e i .start; at = e i .at }
+
+pub refusal-one : (x y : Stop) → refusal x ≡ refusal y → x ≡ y
+refusal-one x y e = λ i. record { code = e i .code; place = place-one (x .place) (y .place) (ap (λ (z : Refusal). z .place) e) i }
+
+got-one : {v w : ℕ} {p q : Place} → got v p ≡ got w q → (v ≡ w) × (p ≡ q)
+got-one e = (cc, cc)
+
+refused-one : {x y : Refusal} → _≡_ {A = Result ℕ} (refused x) (refused y) → x ≡ y
+refused-one e = cc
+
+pub taken-one : (a b : Field) → taken a ≡ taken b → a ≡ b
+taken-one (Value v q) (Value w r) e = ap₂ Value (got-one e .0) (place-one q r (got-one e .1))
+taken-one (Value v q) (Field-Off y) e = got-not-refused (sym e) refl
+taken-one (Field-Off x) (Value w r) e = got-not-refused e refl
+taken-one (Field-Off x) (Field-Off y) e = ap Field-Off (refusal-one x y (refused-one e))
