@@ -1,5 +1,1 @@
-pub mod Filled
-pub mod Readings
-pub mod Judging
-pub mod EvidenceSteps
 pub mod Unique

@@ -110,7 +110,7 @@ fn write_line(head: &mut [u8], end: usize, bytes: &[u8])
 // The line that `judge` prints.
 fn write_verdict(problem: &[u8], answer: &[u8]) {
     let mut space = [0u8; line::ROOM];
-    let v = numbers(board::judge_files(problem, answer));
+    let v = numbers(judging::judge_files(problem, answer));
     let end = line::line(v, &mut space);
     io::write_all(STDOUT_FILENO, &space[..end]);
 }
@@ -128,7 +128,7 @@ fn write_part(part: &[u8])
 
 // The line for the evidence that is made in the bytes lent.
 fn write_evidence(problem: &[u8], answer: &[u8], lent: &mut [u8]) {
-    let v = numbers(board::evidence_files(problem, answer, lent));
+    let v = numbers(making::evidence_files(problem, answer, lent));
     let mut space = [0u8; HEAD];
     let head: &mut [u8] = &mut space;
     let word = put_text(head, 0, b"evidence");
@@ -149,7 +149,7 @@ fn write_case<'a>(problem: &'a [u8], answer: &'a [u8], lent: usize)
     requires { ⌜ lent ≤ most-lent ⌝ }
 {
     write_verdict(problem, answer);
-    write_part(board::pointed_at(problem, answer));
+    write_part(part::pointed_at(problem, answer));
     let mut space = marked();
     write_evidence(problem, answer, &mut space[..lent]);
 }

@@ -20,10 +20,6 @@ abbrev pub fault-at : (ℕ → ℕ → Verdict) → Option (ℕ × ℕ) → Opti
 fault-at v none = none
 fault-at v (some at) = some (v (at .0) (at .1))
 
--- 12, or 11.
-abbrev pub product-verdict : Bool → ℕ → ℕ → Verdict
-product-verdict order = cond order at-order below-order
-
 unfoldable pub applies : ℕ → Claim → Option Verdict
 applies code c =
     cond (eqb code 9) (fault-if (not (reduced (c .problem) (c .answer .P))) not-reduced)

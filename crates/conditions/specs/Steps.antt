@@ -1,100 +1,108 @@
--- Each condition over the arrays that hold a claim is that of the rules over the claim.
+-- Each condition over the arrays of a claim is that of the rules over the claim, and what the functions that it is made of ask follows from
+-- what is asked of the arrays.
+--   leading-grid, rank-grid  the leading matrix and [P(0) C] modulo p, as the code has them
+--   sized-of, square-of      what is asked by the degrees and the determinant
+--   reduced-of, monomial-of, rank-of       conditions 1, 2 and 4
 use mathlib.Core.Path.{_≡_, refl, sym, ap, subst, _∙_}
 use mathlib.Core.Bool.{Bool, true, false, not}
-use Prim.Native.Nat.{_+_}
+use mathlib.Core.List.{List}
+use Prim.Native.Nat.{ℕ, _+_}
 use native.Mathlib.Nat.{le-of-lt}
 use Rattle.algebra.specs.Residue.{K, red}
 use Rattle.algebra.specs.Series.{Series, series-ext}
-use Rattle.algebra.specs.Matrix.{Same}
+use Rattle.algebra.specs.Matrix.{Matrix, Same}
 use Rattle.algebra.specs.Det.{det, det-local}
 use Rattle.algebra.specs.Dependence.{Dependent, dependent-local}
 use Rattle.algebra.specs.OrderBasis.{Monomial}
 use Rattle.algebra.specs.PolyMatrix.{entries as series-entries}
-use Rattle.rules.specs.Claim.{Claim}
+use Rattle.rules.specs.Claim.{Problem}
 use Rattle.rules.specs.Matrices.{matrix-P}
-use Rattle.rules.specs.Conditions.{leading-matrix, reduced, monomial-determinant, degree-sum-of, degree-sum, low-fault, order-fault, first-place, rank-matrix, rank-below}
+use Rattle.rules.specs.Conditions.{leading-matrix, reduced, monomial-determinant, rank-matrix, rank-below}
 use Rattle.rules.specs.BoolLaws.{false-iff}
 use Rattle.rules.specs.ReducedLaws.{reduced-iff}
 use Rattle.rules.specs.DeterminantLaws.{monomial-determinant-iff}
 use Rattle.rules.specs.ProductLaws.{rank-below-iff}
-use Rattle.layout.specs.Flat.{length-at, shift-at, cells}
-use Rattle.degrees.specs.Claims.{degree-sum-rules}
+use Rattle.layout.specs.Flat.{cells}
+use Rattle.layout.specs.Holds.{padded-fewer}
+use Rattle.layout.specs.Settles.{Settles}
+use Rattle.claim.specs.declared.Head.{Head}
+use Rattle.claim.specs.Claims.{problem-of, basis-of, constants-of}
+use Rattle.claim.specs.Sound.{SoundHead, SoundBasis}
+use Rattle.claim.specs.Holds.{holds-entries}
+use Rattle.degrees.specs.Degrees.{Sized}
+use Rattle.determinant.specs.Square.{Holds}
 use Rattle.matrix.specs.Claims.{leading-rules, rank-rules}
-use Rattle.product.specs.Claims.{first-low-place, first-order-place}
 use Rattle.matrix.specs.Fill.{array-of}
 use Rattle.matrix.specs.Leading.{leading-number}
-use Rattle.product.specs.Faults.{flat-fault}
 use Rattle.matrix.specs.Rank.{rank-number}
-use Rattle.layout.specs.Settles.{Settles}
 use Rattle.elimination.specs.Grid.{grid}
-use Rattle.conditions.specs.Held.{Arrays, Held}
 
-module _ (x : Arrays) (c : Claim) (held : Held x c) where
-  -- The same polynomials, the same leading matrix and the same [P(0) C].
-  same-P : Same (Series (K (c .problem .p))) (c .problem .m) (c .problem .m) (cells (c .problem .p) (x .entries))
-      (series-entries (K (c .problem .p)) (matrix-P (c .problem) (c .answer .P)))
-  same-P i j hi hj = series-ext (K (c .problem .p)) (λ k. ap (red (c .problem .p)) (held .P-held i j k hi hj))
+-- The leading matrix, and [P(0) C].
+abbrev pub leading-grid : (head : Head) → (lengths entries : List ℕ) → Matrix (K (head .p))
+leading-grid head lengths entries = grid (head .p) (array-of (head .m) (head .m) (leading-number entries lengths (head .shifts) (head .m)))
 
-  same-leading : Same (K (c .problem .p)) (c .problem .m) (c .problem .m)
-      (grid (c .problem .p) (array-of (c .problem .m) (c .problem .m) (leading-number (x .entries) (x .lengths) (x .shifts) (c .problem .m))))
-      (leading-matrix (c .problem) (c .answer .P))
-  same-leading =
-      leading-rules (c .problem) (c .answer .P) (x .entries) (held .P-held) (x .lengths) (x .shifts) (held .lengths-held) (held .shifts-held)
-      (held .valid .valid-problem .rows-most)
+abbrev pub rank-grid : (head : Head) → (entries c : List ℕ) → Matrix (K (head .p))
+rank-grid head entries c = grid (head .p) (array-of (head .m) (head .m + head .n) (rank-number entries c (head .m)))
 
-  same-rank : Same (K (c .problem .p)) (c .problem .m) (c .problem .m + c .problem .n)
-      (grid (c .problem .p) (array-of (c .problem .m) (c .problem .m + c .problem .n) (rank-number (x .entries) (x .constants) (c .problem .m))))
-      (rank-matrix (c .problem) (c .answer .P) (c .answer .C))
-  same-rank =
-      rank-rules (c .problem) (c .answer .P) (x .entries) (held .P-held) (c .answer .C) (x .constants) (held .C-held)
-      (held .valid .valid-problem .rows-most) (held .valid .valid-problem .columns-most)
+-- WHAT IS ASKED
 
-  -- What the tests over the arrays say of the claim: conditions 1 and 2, …
-  pub reduced-of : (r : Bool)
-      → Settles (det (K (c .problem .p)) (c .problem .m) (grid (c .problem .p) (array-of (c .problem .m) (c .problem .m) (leading-number (x .entries) (x .lengths) (x .shifts) (c .problem .m)))) ≡ K (c .problem .p) .𝟘) r
-      → reduced (c .problem) (c .answer .P) ≡ not r
+module _ {head : Head} {lengths entries : List ℕ} (sound-head : SoundHead head) (sound-basis : SoundBasis head lengths entries) where
+  pub sized-of : Sized lengths (head .shifts)
+  sized-of = record { length-most = sound-basis .P-padded .length-most; shift-most = sound-head .shifts-most }
+
+  pub square-of : Holds (head .p) (head .m) entries lengths
+  square-of =
+      record {
+        two-le = sound-head .prime .two-le;
+        allowed = sound-head .prime-most;
+        some-row = sound-head .rows-least;
+        few-rows = sound-head .rows-most;
+        below = sound-basis .P-below;
+        padded = padded-fewer (sound-head .rows-most) (sound-basis .P-padded);
+      }
+
+-- WHAT THE TESTS SAY
+
+module _ (head : Head) (f lengths entries : List ℕ) (sound-head : SoundHead head) (sound-basis : SoundBasis head lengths entries) where
+  abbrev b : Problem
+  b = problem-of head f
+
+  abbrev P : List (List (List ℕ))
+  P = basis-of (head .m) lengths entries
+
+  -- The same polynomials.
+  same-P : Same (Series (K (head .p))) (head .m) (head .m) (cells (head .p) entries) (series-entries (K (head .p)) (matrix-P b P))
+  same-P i j hi hj = series-ext (K (head .p)) (λ k. ap (red (head .p)) (holds-entries head f lengths entries sound-head sound-basis i j k hi hj))
+
+  same-leading : Same (K (head .p)) (head .m) (head .m) (leading-grid head lengths entries) (leading-matrix b P)
+  same-leading = leading-rules head f lengths entries sound-head sound-basis
+
+  -- Conditions 1 and 2, …
+  pub reduced-of : (r : Bool) → Settles (det (K (head .p)) (head .m) (leading-grid head lengths entries) ≡ K (head .p) .𝟘) r → reduced b P ≡ not r
   reduced-of true s =
-      false-iff (reduced (c .problem) (c .answer .P)) .1
-      (λ e. reduced-iff (c .problem) (c .answer .P) .0 e (sym (det-local (K (c .problem .p)) (c .problem .m) _ _ same-leading) ∙ s .holds refl))
-  reduced-of false s =
-      reduced-iff (c .problem) (c .answer .P) .1 (λ e. s .fails refl (det-local (K (c .problem .p)) (c .problem .m) _ _ same-leading ∙ e))
+      false-iff (reduced b P) .1 (λ e. reduced-iff b P .0 e (sym (det-local (K (head .p)) (head .m) _ _ same-leading) ∙ s .holds refl))
+  reduced-of false s = reduced-iff b P .1 (λ e. s .fails refl (det-local (K (head .p)) (head .m) _ _ same-leading ∙ e))
 
-  pub monomial-of : (r : Bool) → Settles (Monomial (K (c .problem .p)) (det (Series (K (c .problem .p))) (c .problem .m) (cells (c .problem .p) (x .entries)))) r
-      → monomial-determinant (c .problem) (c .answer .P) ≡ r
+  pub monomial-of : (r : Bool) → Settles (Monomial (K (head .p)) (det (Series (K (head .p))) (head .m) (cells (head .p) entries))) r → monomial-determinant b P ≡ r
   monomial-of true s =
-      monomial-determinant-iff (c .problem) (c .answer .P) .1
-      (subst (Monomial (K (c .problem .p))) (det-local (Series (K (c .problem .p))) (c .problem .m) _ _ same-P) (s .holds refl))
+      monomial-determinant-iff b P .1 (subst (Monomial (K (head .p))) (det-local (Series (K (head .p))) (head .m) _ _ same-P) (s .holds refl))
   monomial-of false s =
-      false-iff (monomial-determinant (c .problem) (c .answer .P)) .1
-      (λ e. s .fails refl
-      (subst (Monomial (K (c .problem .p))) (sym (det-local (Series (K (c .problem .p))) (c .problem .m) _ _ same-P))
-      (monomial-determinant-iff (c .problem) (c .answer .P) .0 e)))
+      false-iff (monomial-determinant b P) .1
+      (λ e. s .fails refl (subst (Monomial (K (head .p))) (sym (det-local (Series (K (head .p))) (head .m) _ _ same-P)) (monomial-determinant-iff b P .0 e)))
 
-  -- … condition 3, …
-  pub low-of : first-place (c .problem .m) (c .problem .n) (flat-fault false (c .problem .p) (x .entries) (x .columns) (c .problem .m) (x .orders) (x .constants))
-      ≡ first-place (c .problem .m) (c .problem .n) (low-fault (c .problem) (c .answer .P))
-  low-of =
-      first-low-place (c .problem) (c .answer .P) (x .entries) (x .columns) (x .orders) (held .P-held) (held .F-held) (held .orders-held) (x .constants)
+  -- … and condition 4.
+  module _ (c : List ℕ) where
+    abbrev C : List (List ℕ)
+    C = constants-of (head .m) (head .n) c
 
-  pub order-of : first-place (c .problem .m) (c .problem .n) (flat-fault true (c .problem .p) (x .entries) (x .columns) (c .problem .m) (x .orders) (x .constants))
-      ≡ first-place (c .problem .m) (c .problem .n) (order-fault (c .problem) (c .answer .P) (c .answer .C))
-  order-of =
-      first-order-place (c .problem) (c .answer .P) (x .entries) (x .columns) (x .orders) (held .P-held) (held .F-held) (held .orders-held)
-      (c .answer .C) (x .constants) (held .C-held)
+    same-rank : Same (K (head .p)) (head .m) (head .m + head .n) (rank-grid head entries c) (rank-matrix b P C)
+    same-rank = rank-rules head f lengths entries sound-head sound-basis c
 
-  -- … condition 4 and the degree sum.
-  pub rank-of : (r : Bool)
-      → Settles (Dependent (K (c .problem .p)) (c .problem .m) (c .problem .m + c .problem .n) (grid (c .problem .p) (array-of (c .problem .m) (c .problem .m + c .problem .n) (rank-number (x .entries) (x .constants) (c .problem .m))))) r
-      → rank-below (c .problem) (c .answer .P) (c .answer .C) ≡ r
-  rank-of true s =
-      rank-below-iff (c .problem) (c .answer .P) (c .answer .C) (le-of-lt (held .valid .valid-problem .prime .two-le)) .1
-      (dependent-local (K (c .problem .p)) (c .problem .m) (c .problem .m + c .problem .n) _ _ same-rank (s .holds refl))
-  rank-of false s =
-      false-iff (rank-below (c .problem) (c .answer .P) (c .answer .C)) .1
-      (λ e. s .fails refl
-      (dependent-local (K (c .problem .p)) (c .problem .m) (c .problem .m + c .problem .n) _ _ (λ i j hi hj. sym (same-rank i j hi hj))
-      (rank-below-iff (c .problem) (c .answer .P) (c .answer .C) (le-of-lt (held .valid .valid-problem .prime .two-le)) .0 e)))
-
-  pub same-degree-sum : degree-sum-of (c .problem .m) (length-at (x .lengths)) (shift-at (x .shifts)) ≡ degree-sum (c .problem) (c .answer .P)
-  same-degree-sum =
-      degree-sum-rules (c .problem) (c .answer .P) (x .lengths) (x .shifts) (held .lengths-held) (held .shifts-held)
+    pub rank-of : (r : Bool) → Settles (Dependent (K (head .p)) (head .m) (head .m + head .n) (rank-grid head entries c)) r → rank-below b P C ≡ r
+    rank-of true s =
+        rank-below-iff b P C (le-of-lt (sound-head .prime .two-le)) .1 (dependent-local (K (head .p)) (head .m) (head .m + head .n) _ _ same-rank (s .holds refl))
+    rank-of false s =
+        false-iff (rank-below b P C) .1
+        (λ e. s .fails refl
+        (dependent-local (K (head .p)) (head .m) (head .m + head .n) _ _ (λ i j hi hj. sym (same-rank i j hi hj))
+        (rank-below-iff b P C (le-of-lt (sound-head .prime .two-le)) .0 e)))

@@ -1,27 +1,21 @@
-// The four conditions of document 01, on a claim that lies in flat arrays. A name means the same in all functions: orders, shifts, the
-// coefficients f of F, the lengths and the coefficients (entries) of P's entries, C, the prime, the rows and the columns.
+// The four conditions of document 01, on a claim that lies in arrays.
 ghost use mathlib.Core.Path.{_≡_};
-ghost use Prim.Native.Nat.{_+_, _≤_};
-ghost use Rattle.algebra.specs.Prime.{Prime};
+ghost use Prim.Native.Nat.{_+_};
 ghost use Rattle.algebra.specs.Residue.{K};
 ghost use Rattle.algebra.specs.Det.{det};
 ghost use Rattle.algebra.specs.Dependence.{Dependent};
-ghost use Rattle.rules.specs.Sizes.{most-rows};
 ghost use Rattle.rules.specs.Conditions.{first-place};
-ghost use Rattle.rules.specs.Verdict.{judge-claim};
+ghost use Rattle.rules.specs.Verdict.{below-order, at-order, judge-claim};
 ghost use Rattle.verdict.specs.Meant.{meant};
-ghost use Rattle.layout.specs.Holds.{Each, Ordered};
+ghost use Rattle.layout.specs.Holds.{Each};
 ghost use Rattle.layout.specs.Settles.{Settles};
-ghost use Rattle.elimination.specs.Grid.{grid};
-ghost use Rattle.matrix.specs.Fill.{array-of};
-ghost use Rattle.degrees.specs.Degrees.{Sized};
-ghost use Rattle.matrix.specs.Leading.{leading-number};
-ghost use Rattle.matrix.specs.Rank.{rank-number};
-ghost use Rattle.product.specs.Product.{Factors};
-ghost use Rattle.product.specs.Faults.{flat-fault};
-ghost use Rattle.conditions.specs.Held.{Ready, Judged, arrays};
-ghost use Rattle.conditions.specs.Applies.{applies, fault-if, fault-at, product-verdict};
+ghost use Rattle.claim.specs.Claims.{claim-of};
+ghost use Rattle.claim.specs.Sound.{SoundHead, SoundColumns, SoundBasis, Sound};
+ghost use Rattle.product.specs.Faults.{flat-low-fault, flat-order-fault};
+ghost use Rattle.conditions.specs.Applies.{applies, fault-if, fault-at};
+ghost use Rattle.conditions.specs.Steps.{leading-grid, rank-grid};
 ghost use Rattle.conditions.specs.Findings.{finding};
+use claim::Head;
 use degrees::Degree;
 use degrees::degree_sum;
 use degrees::not_negative;
@@ -30,12 +24,12 @@ use elimination::dependent;
 use elimination::singular;
 use layout::COLUMN_COEFFICIENTS;
 use layout::ENTRY_COEFFICIENTS;
-use layout::ROWS;
 use layout::SQUARE;
 use matrix::leading::leading_matrix;
 use matrix::rank::rank_matrix;
 use product::fault::FirstFault;
-use product::fault::first_fault;
+use product::fault::first_low_fault;
+use product::fault::first_order_fault;
 use verdict::Verdict;
 
 // What a claim is refused for, or nothing.
@@ -46,61 +40,64 @@ enum Finding {
 
 // 9: whether the leading matrix has determinant 0.
 fn not_reduced<'a>(
-    shifts: [i32; ROWS],
+    head: Head,
     lengths: &'a [usize; SQUARE],
     entries: &'a [u32; ENTRY_COEFFICIENTS],
-    p: u32,
-    m: usize,
 ) -> bool
-    requires { ⌜ Prime p × Each p (now entries) ⌝ }
-    requires { ⌜ Sized (now lengths) shifts ⌝ }
-    requires { ⌜ m ≤ most-rows ⌝ }
-    ensures { λ r. ⌜ Settles (det (K p) m (grid p (array-of m m (leading-number (now (entries .entry)) (now (lengths .entry)) shifts m))) ≡ K p .𝟘) r ⌝ }
+    requires { ⌜ SoundHead head × SoundBasis head (now lengths) (now entries) ⌝ }
+    ensures { λ r. ⌜ Settles (det (K (head .p)) (head .m) (leading-grid head (now (lengths .entry)) (now (entries .entry))) ≡ K (head .p) .𝟘) r ⌝ }
 {
-    singular(leading_matrix(entries, lengths, shifts, m), p, m)
+    singular(leading_matrix(head, lengths, entries), head.p, head.m)
 }
 
-// 11, and 12 where `at_order` says so: the first place of a fault of the product.
-fn product_fault<'a>(
-    orders: [usize; ROWS],
+// 11: the first place of a fault below the orders.
+fn below_order<'a>(
+    head: Head,
     f: &'a [u32; COLUMN_COEFFICIENTS],
     lengths: &'a [usize; SQUARE],
     entries: &'a [u32; ENTRY_COEFFICIENTS],
-    c: &'a [u32; SQUARE],
-    p: u32,
-    m: usize,
-    n: usize,
-    at_order: bool,
 ) -> Finding
-    requires { ⌜ Factors p (now entries) (now lengths) (now f) ⌝ }
-    requires { ⌜ Ordered orders ⌝ }
-    requires { ⌜ (m ≤ most-rows) × (n ≤ most-rows) ⌝ }
-    ensures { λ r. ⌜ finding r ≡ fault-at (product-verdict «at_order») (first-place m n (flat-fault «at_order» p (now (entries .entry)) (now (f .entry)) m orders (now (c .entry)))) ⌝ }
+    requires { ⌜ SoundHead head × (SoundColumns head (now f) × SoundBasis head (now lengths) (now entries)) ⌝ }
+    ensures { λ r. ⌜ finding r ≡ fault-at below-order (first-place (head .m) (head .n) (flat-low-fault head (now (f .entry)) (now (entries .entry)))) ⌝ }
 {
-    let FirstFault::At(i, j) = first_fault(entries, lengths, f, orders, c, p, m, n, at_order) else {
+    let FirstFault::At(i, j) = first_low_fault(head, f, lengths, entries) else {
         return Finding::Nothing;
     };
     let row = i as u16;
     let column = j as u32;
-    if at_order {
-        return Finding::Fault(Verdict::AtOrder(row, column));
-    }
     Finding::Fault(Verdict::BelowOrder(row, column))
 }
 
-// 13: whether the rank of [P(0) C] is below m.
-fn low_rank<'a>(
+// 12: the first place of a fault at the orders.
+fn at_order<'a>(
+    head: Head,
+    f: &'a [u32; COLUMN_COEFFICIENTS],
+    lengths: &'a [usize; SQUARE],
     entries: &'a [u32; ENTRY_COEFFICIENTS],
     c: &'a [u32; SQUARE],
-    p: u32,
-    m: usize,
-    n: usize,
-) -> bool
-    requires { ⌜ Prime p × (Each p (now entries) × Each p (now c)) ⌝ }
-    requires { ⌜ (m ≤ most-rows) × (n ≤ most-rows) ⌝ }
-    ensures { λ r. ⌜ Settles (Dependent (K p) m (m + n) (grid p (array-of m (m + n) (rank-number (now (entries .entry)) (now (c .entry)) m)))) r ⌝ }
+) -> Finding
+    requires { ⌜ SoundHead head × (SoundColumns head (now f) × SoundBasis head (now lengths) (now entries)) ⌝ }
+    ensures { λ r. ⌜ finding r ≡ fault-at at-order (first-place (head .m) (head .n) (flat-order-fault head (now (f .entry)) (now (entries .entry)) (now (c .entry)))) ⌝ }
 {
-    dependent(rank_matrix(entries, c, m, n), p, m, m + n)
+    let FirstFault::At(i, j) = first_order_fault(head, f, lengths, entries, c) else {
+        return Finding::Nothing;
+    };
+    let in_row = i as u16;
+    let in_column = j as u32;
+    Finding::Fault(Verdict::AtOrder(in_row, in_column))
+}
+
+// 13: whether the rank of [P(0) C] is below m.
+fn low_rank<'a>(head: Head, entries: &'a [u32; ENTRY_COEFFICIENTS], c: &'a [u32; SQUARE]) -> bool
+    requires { ⌜ SoundHead head × (Each (head .p) (now entries) × Each (head .p) (now c)) ⌝ }
+    ensures { λ r. ⌜ Settles (Dependent (K (head .p)) (head .m) (head .m + head .n) (rank-grid head (now (entries .entry)) (now (c .entry)))) r ⌝ }
+{
+    dependent(
+        rank_matrix(head, entries, c),
+        head.p,
+        head.m,
+        head.m + head.n,
+    )
 }
 
 // The verdict, where it applies.
@@ -117,58 +114,47 @@ fn fault_if(applies: bool, v: Verdict) -> Finding
 // The verdict of that code, where it applies. None but those of 9 to 13 is for a claim.
 fn applying<'a>(
     code: u8,
-    orders: [usize; ROWS],
-    shifts: [i32; ROWS],
+    head: Head,
     f: &'a [u32; COLUMN_COEFFICIENTS],
     lengths: &'a [usize; SQUARE],
     entries: &'a [u32; ENTRY_COEFFICIENTS],
     c: &'a [u32; SQUARE],
-    p: u32,
-    m: usize,
-    n: usize,
 ) -> Finding
-    requires { ⌜ Ready p m n (arrays orders shifts (now f) (now lengths) (now entries) (now c)) ⌝ }
-    ensures { λ r. ⌜ Judged (applies code) p m n (arrays orders shifts (now (f .entry)) (now (lengths .entry)) (now (entries .entry)) (now (c .entry))) (finding r) ⌝ }
+    requires { ⌜ Sound head (now f) (now lengths) (now entries) (now c) ⌝ }
+    ensures { λ r. ⌜ finding r ≡ applies code (claim-of head (now (f .entry)) (now (lengths .entry)) (now (entries .entry)) (now (c .entry))) ⌝ }
 {
     match code {
-        9 => fault_if(
-            not_reduced(shifts, lengths, entries, p, m),
-            Verdict::NotReduced,
-        ),
+        9 => fault_if(not_reduced(head, lengths, entries), Verdict::NotReduced),
         10 => fault_if(
-            !determinant_is_monomial(entries, lengths, p, m),
+            !determinant_is_monomial(entries, lengths, head.p, head.m),
             Verdict::NotMonomial,
         ),
-        11 => product_fault(orders, f, lengths, entries, c, p, m, n, false),
-        12 => product_fault(orders, f, lengths, entries, c, p, m, n, true),
-        13 => fault_if(low_rank(entries, c, p, m, n), Verdict::LowRank),
+        11 => below_order(head, f, lengths, entries),
+        12 => at_order(head, f, lengths, entries, c),
+        13 => fault_if(low_rank(head, entries, c), Verdict::LowRank),
         _ => Finding::Nothing,
     }
 }
 
 // The verdict on a claim that was read: "The first that applies is given, … then 9 to 13 by number."
 pub fn conditions<'a>(
-    orders: [usize; ROWS],
-    shifts: [i32; ROWS],
+    head: Head,
     f: &'a [u32; COLUMN_COEFFICIENTS],
     lengths: &'a [usize; SQUARE],
     entries: &'a [u32; ENTRY_COEFFICIENTS],
     c: &'a [u32; SQUARE],
-    p: u32,
-    m: usize,
-    n: usize,
 ) -> Verdict
-    requires { ⌜ Ready p m n (arrays orders shifts (now f) (now lengths) (now entries) (now c)) ⌝ }
-    ensures { λ r. ⌜ Judged judge-claim p m n (arrays orders shifts (now (f .entry)) (now (lengths .entry)) (now (entries .entry)) (now (c .entry))) (meant r) ⌝ }
+    requires { ⌜ Sound head (now f) (now lengths) (now entries) (now c) ⌝ }
+    ensures { λ r. ⌜ meant r ≡ judge-claim (claim-of head (now (f .entry)) (now (lengths .entry)) (now (entries .entry)) (now (c .entry))) ⌝ }
 {
     let mut code = 9;
     while code <= 13 {
-        if let Finding::Fault(v) = applying(code, orders, shifts, f, lengths, entries, c, p, m, n) {
+        if let Finding::Fault(v) = applying(code, head, f, lengths, entries, c) {
             return v;
         }
         code += 1;
     }
-    let Degree::Of(sum) = degree_sum(lengths, shifts, m) else {
+    let Degree::Of(sum) = degree_sum(head, lengths) else {
         return Verdict::NotReduced;
     };
     Verdict::Passed(not_negative(sum))

@@ -8,7 +8,7 @@ ghost use Rattle.rules.specs.Sizes.{most-rows, most-length, most-shift};
 ghost use Rattle.layout.specs.Flat.{length-at, shift-at};
 ghost use Rattle.degrees.specs.Degree.{degree};
 ghost use Rattle.degrees.specs.Degrees.{Sized, entry-term};
-use layout::ROWS;
+use claim::Head;
 use layout::SQUARE;
 use layout::square_place;
 
@@ -78,47 +78,47 @@ fn shifted_degree(length: usize, shift: i32) -> Degree
     Degree::Of(plus((length - 1) as i32, shift))
 }
 
-// lengths, shifts: of the entries of P and of its columns. i and j: a row and a column.
+// head, lengths: of a claim. i and j: a row and a column.
 // The degree of the entry there plus the column's shift.
-fn term(lengths: &[usize; SQUARE], shifts: [i32; ROWS], i: usize, j: usize) -> Degree
-    requires { ⌜ Sized (now lengths) shifts ⌝ }
+fn term(head: Head, lengths: &[usize; SQUARE], i: usize, j: usize) -> Degree
+    requires { ⌜ Sized (now lengths) (head .shifts) ⌝ }
     requires { ⌜ (i < most-rows) × (j < most-rows) ⌝ }
-    ensures { λ r. ⌜ degree r ≡ entry-term (now (lengths .entry)) shifts i j ⌝ }
+    ensures { λ r. ⌜ degree r ≡ entry-term (now (lengths .entry)) (head .shifts) i j ⌝ }
 {
-    shifted_degree(lengths[square_place(i, j)], shifts[j])
+    shifted_degree(lengths[square_place(i, j)], head.shifts[j])
 }
 
-// m: the number of columns. i: a row.
+// head, lengths: of a claim. i: a row.
 // "the largest, over its entries, of degree plus that column's shift; it may be negative": none for a row of zeros.
-pub fn row_degree(lengths: &[usize; SQUARE], shifts: [i32; ROWS], m: usize, i: usize) -> Degree
-    requires { ⌜ Sized (now lengths) shifts ⌝ }
-    requires { ⌜ (m ≤ most-rows) × (i < most-rows) ⌝ }
-    ensures { λ r. ⌜ degree r ≡ row-degree-of m (length-at (now (lengths .entry)) i) (shift-at shifts) ⌝ }
+pub fn row_degree(head: Head, lengths: &[usize; SQUARE], i: usize) -> Degree
+    requires { ⌜ Sized (now lengths) (head .shifts) ⌝ }
+    requires { ⌜ (head .m ≤ most-rows) × (i < most-rows) ⌝ }
+    ensures { λ r. ⌜ degree r ≡ row-degree-of (head .m) (length-at (now (lengths .entry)) i) (shift-at (head .shifts)) ⌝ }
 {
-    let mut j = m;
+    let mut j = head.m;
     let mut most = Degree::None;
     while 0 < j {
         j -= 1;
-        most = larger_degree(term(lengths, shifts, i, j), most);
+        most = larger_degree(term(head, lengths, i, j), most);
     }
     most
 }
 
-// lengths, shifts: of the entries of P and of its columns. m: the number of rows and columns.
+// head, lengths: of a claim.
 // "the sum of the row degrees less the sum of the shifts": none where a row has no degree.
-pub fn degree_sum(lengths: &[usize; SQUARE], shifts: [i32; ROWS], m: usize) -> Degree
-    requires { ⌜ Sized (now lengths) shifts ⌝ }
-    requires { ⌜ m ≤ most-rows ⌝ }
-    ensures { λ r. ⌜ degree r ≡ degree-sum-of m (length-at (now (lengths .entry))) (shift-at shifts) ⌝ }
+pub fn degree_sum(head: Head, lengths: &[usize; SQUARE]) -> Degree
+    requires { ⌜ Sized (now lengths) (head .shifts) ⌝ }
+    requires { ⌜ head .m ≤ most-rows ⌝ }
+    ensures { λ r. ⌜ degree r ≡ degree-sum-of (head .m) (length-at (now (lengths .entry))) (shift-at (head .shifts)) ⌝ }
 {
-    let mut i = m;
+    let mut i = head.m;
     let mut sum: i32 = 0;
     while 0 < i {
         i -= 1;
-        let Degree::Of(row) = row_degree(lengths, shifts, m, i) else {
+        let Degree::Of(row) = row_degree(head, lengths, i) else {
             return Degree::None; // a row of zeros
         };
-        let excess = minus(row, shifts[i]);
+        let excess = minus(row, head.shifts[i]);
         sum = plus(excess, sum);
     }
     Degree::Of(sum)

@@ -1,70 +1,65 @@
-// The `CE` record of the evidence that a basis has, written into a lent buffer. `entries` and `lengths` hold P, `f` holds F.
+// The `CE` record of the evidence that a basis has, written into a lent buffer.
 ghost use Prim.Native.Nat.{_+_, _*_, _≤_, _<_};
 ghost use lib.ListN.{length};
-ghost use Rattle.rules.specs.Sizes.{most-rows};
 ghost use Rattle.rules.specs.RecordBytes.{evidence-bytes};
 ghost use Rattle.rules.specs.Writer.{bytes, write-all, write-CE};
+ghost use Rattle.rules.specs.Evidence.{evidence-of};
 ghost use Rattle.writer.specs.Appended.{Appended};
-ghost use Rattle.product.specs.Product.{Factors};
-ghost use Rattle.layout.specs.Holds.{Ordered};
-ghost use Rattle.evidence.specs.Record.{row-numbers, flat-evidence};
+ghost use Rattle.claim.specs.Claims.{problem-of, basis-of};
+ghost use Rattle.claim.specs.Sound.{SoundHead, SoundColumns, SoundBasis};
+ghost use Rattle.evidence.specs.Record.{row-numbers};
+use claim::Head;
 use layout::COLUMN_COEFFICIENTS;
 use layout::ENTRY_COEFFICIENTS;
-use layout::ROWS;
 use layout::SQUARE;
+use product::fault::order_coefficient;
 use writer::put_text;
 use writer::put4;
 
+// head, f, lengths, entries: of a claim. i: a row.
 // Puts the numbers of row i at `at` and gives the place after them.
 fn put_row<'a, 'b>(
     out: &'b mut [u8],
     at: usize,
-    entries: &'a [u32; ENTRY_COEFFICIENTS],
-    lengths: &'a [usize; SQUARE],
+    head: Head,
     f: &'a [u32; COLUMN_COEFFICIENTS],
-    orders: [usize; ROWS],
-    p: u32,
-    m: usize,
-    n: usize,
+    lengths: &'a [usize; SQUARE],
+    entries: &'a [u32; ENTRY_COEFFICIENTS],
     i: usize,
 ) -> usize
-    requires { ⌜ Factors p (now entries) (now lengths) (now f) ⌝ }
-    requires { ⌜ Ordered orders ⌝ }
-    requires { ⌜ (m ≤ most-rows) × ((n ≤ most-rows) × (i < most-rows)) ⌝ }
-    requires { ⌜ at + 4 * n ≤ length (now out) ⌝ }
-    ensures { λ r. ⌜ Appended (now (out .entry)) (now (out .exit)) at r (write-all (bytes 4) (row-numbers p (now (entries .entry)) (now (f .entry)) orders m n i)) ⌝ }
+    requires { ⌜ SoundHead head × (SoundColumns head (now f) × SoundBasis head (now lengths) (now entries)) ⌝ }
+    requires { ⌜ (i < head .m) × (at + 4 * head .n ≤ length (now out)) ⌝ }
+    ensures { λ r. ⌜ Appended (now (out .entry)) (now (out .exit)) at r (write-all (bytes 4) (row-numbers (problem-of head (now (f .entry))) (basis-of (head .m) (now (lengths .entry)) (now (entries .entry))) i)) ⌝ }
 {
+    let n = head.n;
     let mut end = at;
     let mut j = 0;
     while j < n {
-        let v = product::fault::order_coefficient(entries, lengths, f, orders, p, m, i, j);
+        let v = order_coefficient(head, f, lengths, entries, i, j);
         end = put4(out, end, v);
         j += 1;
     }
     end
 }
 
+// head, f, lengths, entries: of a claim.
 // Puts the whole record at the front and gives its length.
 pub fn put_evidence<'a, 'b>(
     out: &'b mut [u8],
-    entries: &'a [u32; ENTRY_COEFFICIENTS],
-    lengths: &'a [usize; SQUARE],
+    head: Head,
     f: &'a [u32; COLUMN_COEFFICIENTS],
-    orders: [usize; ROWS],
-    p: u32,
-    m: usize,
-    n: usize,
+    lengths: &'a [usize; SQUARE],
+    entries: &'a [u32; ENTRY_COEFFICIENTS],
 ) -> usize
-    requires { ⌜ Factors p (now entries) (now lengths) (now f) ⌝ }
-    requires { ⌜ Ordered orders ⌝ }
-    requires { ⌜ (m ≤ most-rows) × (n ≤ most-rows) ⌝ }
-    requires { ⌜ evidence-bytes m n ≤ length (now out) ⌝ }
-    ensures { λ r. ⌜ Appended (now (out .entry)) (now (out .exit)) 0 r (write-CE (flat-evidence p (now (entries .entry)) (now (f .entry)) orders m n)) ⌝ }
+    requires { ⌜ SoundHead head × (SoundColumns head (now f) × SoundBasis head (now lengths) (now entries)) ⌝ }
+    requires { ⌜ evidence-bytes (head .m) (head .n) ≤ length (now out) ⌝ }
+    ensures { λ r. ⌜ Appended (now (out .entry)) (now (out .exit)) 0 r (write-CE (evidence-of (problem-of head (now (f .entry))) (basis-of (head .m) (now (lengths .entry)) (now (entries .entry))))) ⌝ }
 {
+    let m = head.m;
     let mut end = put_text(out, 0, b"CE");
     let mut i = 0;
     while i < m {
-        end = put_row(out, end, entries, lengths, f, orders, p, m, n, i);
+        end = put_row(out, end, head, f, lengths, entries, i);
         i += 1;
     }
     end

@@ -8,7 +8,7 @@ ghost use Rattle.rules.specs.Print.{line-of};
 ghost use Rattle.writer.specs.Appended.{Appended};
 ghost use Rattle.line.specs.Text.{room};
 ghost use Rattle.judge.specs.Loads.{Within};
-use board::judge_files;
+use judging::judge_files;
 use layout::READ_LIMIT;
 use libc::STDOUT_FILENO;
 use line::ROOM;

@@ -13,9 +13,8 @@ use native.Mathlib.Omega.{arith}
 use borrow.Author.Tests.{lt-ltb, le-ltb, ltb-true, ltb-false}
 use lib.Dec.{ltb}
 use lib.ListN.{length, getD, set, length-set}
-use lib.Seq.{ext-getD, getD-set-same, getD-set-other}
-use Rattle.rules.specs.Evidence.{table}
-use Rattle.rules.specs.EvidenceLaws.{length-table, getD-table, table-all}
+use lib.Seq.{getD-set-same, getD-set-other}
+use Rattle.rules.specs.Table.{table, length-table, getD-table, table-all, table-ext}
 use Rattle.rules.specs.Sizes.{most-rows}
 use Rattle.layout.specs.Flat.{width}
 
@@ -88,9 +87,7 @@ module _ {A : Type 0} (d z : A) (n : ℕ) (g : ℕ → A) where
 
   -- … and what it comes to is the table.
   pub filled-table : (k : ℕ) (l : List A) → Filled d z n k g l → l ≡ table n (up-to z k g)
-  filled-table k l f =
-      ext-getD d l (table n (up-to z k g)) (f .size ∙ sym (length-table n (up-to z k g)))
-      (λ i h. let b : i < n = subst (λ n. i < n) (f .size) h in f .holds i b ∙ sym (getD-table n (up-to z k g) d i b))
+  filled-table k l f = table-ext n (up-to z k g) d l (f .size) (f .holds)
 
 -- A row of which k numbers are filled in, and the rows of which k are.
 abbrev pub RowFilled : ℕ → (ℕ → ℕ) → List ℕ → Type 0

@@ -6,6 +6,7 @@ ghost use Rattle.layout.specs.Flat.{cell};
 ghost use Rattle.degrees.specs.Degrees.{Sized};
 ghost use Rattle.matrix.specs.Leading.{exponent-of, at-power, leading-number};
 ghost use Rattle.matrix.specs.Fill.{row-of, array-of};
+use claim::Head;
 use degrees::Degree;
 use degrees::minus;
 use degrees::row_degree;
@@ -38,48 +39,46 @@ fn entry_at(entries: &[u32; ENTRY_COEFFICIENTS], power: i32, i: usize, j: usize)
     }
 }
 
-// entries, lengths, shifts, m: of P. i: a row.
+// head, lengths, entries: of a claim. i: a row.
 // The row i of the leading matrix, and zeros: only zeros where the row has no degree.
 fn leading_row<'a>(
-    entries: &'a [u32; ENTRY_COEFFICIENTS],
+    head: Head,
     lengths: &'a [usize; SQUARE],
-    shifts: [i32; ROWS],
-    m: usize,
+    entries: &'a [u32; ENTRY_COEFFICIENTS],
     i: usize,
 ) -> [u32; COLUMNS]
-    requires { ⌜ Sized (now lengths) shifts ⌝ }
-    requires { ⌜ (m ≤ most-rows) × (i < most-rows) ⌝ }
-    ensures { λ r. ⌜ r ≡ row-of m (leading-number (now (entries .entry)) (now (lengths .entry)) shifts m i) ⌝ }
+    requires { ⌜ Sized (now lengths) (head .shifts) ⌝ }
+    requires { ⌜ (head .m ≤ most-rows) × (i < most-rows) ⌝ }
+    ensures { λ r. ⌜ r ≡ row-of (head .m) (leading-number (now (entries .entry)) (now (lengths .entry)) (head .shifts) (head .m) i) ⌝ }
 {
     let mut row = [0; COLUMNS];
-    let Degree::Of(degree) = row_degree(lengths, shifts, m, i) else {
+    let Degree::Of(degree) = row_degree(head, lengths, i) else {
         return row;
     };
     let mut j = 0;
-    while j < m {
-        let power = minus(degree, shifts[j]);
+    while j < head.m {
+        let power = minus(degree, head.shifts[j]);
         row[j] = entry_at(entries, power, i, j);
         j += 1;
     }
     row
 }
 
-// entries, lengths, shifts, m: of P.
+// head, lengths, entries: of a claim.
 // The leading matrix, and zeros.
 pub fn leading_matrix<'a>(
-    entries: &'a [u32; ENTRY_COEFFICIENTS],
+    head: Head,
     lengths: &'a [usize; SQUARE],
-    shifts: [i32; ROWS],
-    m: usize,
+    entries: &'a [u32; ENTRY_COEFFICIENTS],
 ) -> [[u32; COLUMNS]; ROWS]
-    requires { ⌜ Sized (now lengths) shifts ⌝ }
-    requires { ⌜ m ≤ most-rows ⌝ }
-    ensures { λ r. ⌜ r ≡ array-of m m (leading-number (now (entries .entry)) (now (lengths .entry)) shifts m) ⌝ }
+    requires { ⌜ Sized (now lengths) (head .shifts) ⌝ }
+    requires { ⌜ head .m ≤ most-rows ⌝ }
+    ensures { λ r. ⌜ r ≡ array-of (head .m) (head .m) (leading-number (now (entries .entry)) (now (lengths .entry)) (head .shifts) (head .m)) ⌝ }
 {
     let mut rows = [[0; COLUMNS]; ROWS];
     let mut i = 0;
-    while i < m {
-        rows[i] = leading_row(entries, lengths, shifts, m, i);
+    while i < head.m {
+        rows[i] = leading_row(head, lengths, entries, i);
         i += 1;
     }
     rows

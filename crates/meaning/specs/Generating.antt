@@ -18,7 +18,7 @@ use Rattle.algebra.specs.Generation.{Generated}
 use Rattle.algebra.specs.OrderBasis.{Vanishes}
 use Rattle.rules.specs.Claim.{Claim}
 use Rattle.rules.specs.Matrices.{order, at, polynomial, matrix-F, matrix-P}
-use Rattle.rules.specs.EvidenceLaws.{length-table}
+use Rattle.rules.specs.Table.{length-table}
 use Rattle.meaning.specs.Plain.{row-times-column, column-P, column-F, Generates}
 use Rattle.meaning.specs.Bridge.{red-row-times-column, poly-list, row-list, polynomial-row-list}
 

@@ -12,8 +12,8 @@ use lib.ListN.{length, getD, take, replicate, List·getD-map}
 use Rattle.rules.specs.Sizes.{most-order}
 use Rattle.rules.specs.Writer.{write-problem, write-answer}
 use Rattle.rules.specs.Verdict.{four, numbers, verdict}
-use Rattle.rules.specs.Evidence.{table, make-evidence}
-use Rattle.rules.specs.EvidenceLaws.{getD-table}
+use Rattle.rules.specs.Table.{table, getD-table}
+use Rattle.rules.specs.Evidence.{make-evidence}
 use Rattle.rules.specs.Part.{pointed-at, part-bytes}
 use Rattle.rules.specs.Run.{run-verdict, run-part, run-evidence}
 use Rattle.rules.specs.Cases.{one-by-one, disk-problem, disk-answer}

@@ -35,7 +35,7 @@ use Rattle.rules.specs.PartLaws.{pointed-refused, pointed-claim, front-of-answe
 use Rattle.layout.specs.Holds.{Ordered}
 use Rattle.rules.specs.SumLaws.{sum-below-cong}
 use Rattle.rules.specs.WriterLaws.{rectangle-most}
-use Rattle.reader.specs.declared.Problem.{Problem as ReadProblem}
+use Rattle.reader.specs.declared.ReadProblem.{ReadProblem}
 use Rattle.reader.specs.Arrays.{list-at}
 use Rattle.reader.specs.Values.{problem-value}
 use Rattle.part.specs.Parts.{PartIn, HasColumn, ColumnPart, start-of}
@@ -51,51 +51,51 @@ module _ (s : List ℕ) (r : ReadProblem) (h : r ≡ problem-value (read-problem
   as-read : r ≡ problem-value (got b q)
   as-read = h ∙ ap problem-value e
 
-  pub read-rows : r .m ≡ b .m
+  pub read-rows : r .problem .head .m ≡ b .m
   unfolding problem-value
-  read-rows = ap (λ x. x .m) as-read
+  read-rows = ap (λ x. x .problem .head .m) as-read
 
-  pub read-columns : r .n ≡ b .n
+  pub read-columns : r .problem .head .n ≡ b .n
   unfolding problem-value
-  read-columns = ap (λ x. x .n) as-read
+  read-columns = ap (λ x. x .problem .head .n) as-read
 
-  pub read-order : (k : ℕ) → getD (r .orders) k 0 ≡ order b k
+  pub read-order : (k : ℕ) → getD (r .problem .head .orders) k 0 ≡ order b k
   unfolding problem-value
   read-order k =
       let valid = problem-valid s e in
-      ap (λ x. getD (x .orders) k 0) as-read ∙ list-at most-rows (b .orders) (omega (arith, valid .orders-length, valid .columns-most)) k
+      ap (λ x. getD (x .problem .head .orders) k 0) as-read ∙ list-at most-rows (b .orders) (omega (arith, valid .orders-length, valid .columns-most)) k
 
-  pub read-ordered : Ordered (r .orders)
+  pub read-ordered : Ordered (r .problem .head .orders)
   read-ordered k = omega (arith, read-order k, problem-valid s e .order-most k)
 
-  pub rows-small : r .m ≤ most-rows
+  pub rows-small : r .problem .head .m ≤ most-rows
   rows-small = omega (arith, read-rows, problem-valid s e .rows-most)
 
-  pub columns-small : r .n ≤ most-rows
+  pub columns-small : r .problem .head .n ≤ most-rows
   columns-small = omega (arith, read-columns, problem-valid s e .columns-most)
 
   -- The `FC` record of a column, by the numbers that the code has.
-  pub column-found : (j start size : ℕ) → start ≡ head-bytes (r .m) (r .n) + sum-below j (λ k. column-bytes (r .m) (getD (r .orders) k 0))
-      → size ≡ column-bytes (r .m) (getD (r .orders) j 0)
+  pub column-found : (j start size : ℕ) → start ≡ head-bytes (r .problem .head .m) (r .problem .head .n) + sum-below j (λ k. column-bytes (r .problem .head .m) (getD (r .problem .head .orders) k 0))
+      → size ≡ column-bytes (r .problem .head .m) (getD (r .problem .head .orders) j 0)
       → _≡_ {A = Part} (record { file = 0; start = start; size = size }) (record { file = 0; start = column-start b j; size = column-size b j })
   unfolding column-start column-size
   column-found j start size hs hk =
-      let each : (k : ℕ) → column-bytes (r .m) (getD (r .orders) k 0) ≡ column-size b k = λ k. ap₂ column-bytes read-rows (read-order k) in
+      let each : (k : ℕ) → column-bytes (r .problem .head .m) (getD (r .problem .head .orders) k 0) ≡ column-size b k = λ k. ap₂ column-bytes read-rows (read-order k) in
       same-part refl
       (hs ∙ ap₂ _+_ (ap₂ head-bytes read-rows read-columns) (sum-below-cong j _ _ (λ k below. each k)))
       (hk ∙ each j)
 
 module _ (s : List ℕ) (r : ReadProblem) (h : r ≡ problem-value (read-problem s)) (j : ℕ) (has : HasColumn s j) where
-  pub column-rows : r .m ≤ most-rows
+  pub column-rows : r .problem .head .m ≤ most-rows
   column-rows = rows-small s r h (has .2)
 
-  pub column-columns : r .n ≤ most-rows
+  pub column-columns : r .problem .head .n ≤ most-rows
   column-columns = columns-small s r h (has .2)
 
   pub column-below : j < most-rows
   column-below = omega (arith, has .3, problem-valid s (has .2) .columns-most)
 
-  pub column-ordered : Ordered (r .orders)
+  pub column-ordered : Ordered (r .problem .head .orders)
   column-ordered = read-ordered s r h (has .2)
 
 -- WHAT A CODE SAYS
@@ -164,22 +164,22 @@ module _ (s t : List ℕ) where
       (c .problem, p, ep, pointed-claim s t c q e ∙ ap (claim-part t (c .problem)) (judged-at (c .problem) (verdict s t) (verdict-judged s t c q e) h))
 
   module _ (r : ReadProblem) (h : r ≡ problem-value (read-problem s)) (code : numbers (verdict s t) .code ≡ 12) where
-    pub evidence-rows : r .m ≤ most-rows
+    pub evidence-rows : r .problem .head .m ≤ most-rows
     evidence-rows = let (b, q, e, part) = evidence-read code in rows-small s r h e
 
-    pub evidence-few : 4 * r .m * r .n ≤ 4 * most-rows * most-rows
+    pub evidence-few : 4 * r .problem .head .m * r .problem .head .n ≤ 4 * most-rows * most-rows
     evidence-few = let (b, q, e, part) = evidence-read code in rectangle-most (rows-small s r h e) (columns-small s r h e)
 
     -- The record is the part, …
-    pub evidence-found : _≡_ {A = Part} (record { file = 1; start = length t - evidence-bytes (r .m) (r .n); size = evidence-bytes (r .m) (r .n) }) (pointed-at s t)
+    pub evidence-found : _≡_ {A = Part} (record { file = 1; start = length t - evidence-bytes (r .problem .head .m) (r .problem .head .n); size = evidence-bytes (r .problem .head .m) (r .problem .head .n) }) (pointed-at s t)
     evidence-found =
         let (b, q, e, part) = evidence-read code in
         ap₂ (λ (m n : ℕ). record { file = 1; start = length t - evidence-bytes m n; size = evidence-bytes m n }) (read-rows s r h e) (read-columns s r h e) ∙ sym part
 
     -- … and the answer has room for it at its end.
-    pub evidence-within : evidence-bytes (r .m) (r .n) ≤ length t
+    pub evidence-within : evidence-bytes (r .problem .head .m) (r .problem .head .n) ≤ length t
     evidence-within =
-        let inside : length t - evidence-bytes (r .m) (r .n) + evidence-bytes (r .m) (r .n) ≤ length t =
+        let inside : length t - evidence-bytes (r .problem .head .m) (r .problem .head .n) + evidence-bytes (r .problem .head .m) (r .problem .head .n) ≤ length t =
         subst (λ x. x .start + x .size ≤ cond (eqb (x .file) 0) (length s) (length t)) (sym evidence-found) (pointed-within s t)
         in
         omega (arith, inside)

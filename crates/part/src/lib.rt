@@ -1,4 +1,4 @@
-// Where the bytes lie that a verdict points at.
+// The third service of document 01: the bytes that the verdict on two files points at. Any bytes may come in.
 ghost use mathlib.Core.Path.{_≡_};
 ghost use mathlib.Core.Bool.{cond};
 ghost use Prim.Native.Nat.{_+_, _-_, _≤_};
@@ -12,7 +12,8 @@ ghost use Rattle.rules.specs.Part.{pointed-at};
 ghost use Rattle.layout.specs.Holds.{Ordered};
 ghost use Rattle.verdict.specs.Meant.{meant};
 ghost use Rattle.part.specs.Parts.{PartIn, HasColumn, ColumnPart, part-of, start-of};
-use layout::ROWS;
+use claim::Head;
+use judging::judge_files;
 use reader::read_problem;
 use verdict::Verdict;
 
@@ -71,15 +72,15 @@ fn column_bytes(m: usize, d: usize) -> usize
 }
 
 // The first byte of the `FC` record of column `j`: `PR`, `OR`, `SH` and the columns before it stand before it.
-fn column_start(orders: [usize; ROWS], m: usize, n: usize, j: usize) -> usize
-    requires { ⌜ (m ≤ most-rows) × ((n ≤ most-rows) × (j ≤ most-rows)) ⌝ }
-    requires { ⌜ Ordered orders ⌝ }
-    ensures { λ r. ⌜ r ≡ head-bytes m n + sum-below j (λ k. column-bytes m (getD orders k 0)) ⌝ }
+fn column_start(head: Head, j: usize) -> usize
+    requires { ⌜ (head .m ≤ most-rows) × ((head .n ≤ most-rows) × (j ≤ most-rows)) ⌝ }
+    requires { ⌜ Ordered (head .orders) ⌝ }
+    ensures { λ r. ⌜ r ≡ head-bytes (head .m) (head .n) + sum-below j (λ k. column-bytes (head .m) (getD (head .orders) k 0)) ⌝ }
 {
-    let mut start = 8 + (2 + n) + (2 + 2 * m);
+    let mut start = 8 + (2 + head.n) + (2 + 2 * head.m);
     let mut k = 0;
     while k < j {
-        start += column_bytes(m, orders[k]);
+        start += column_bytes(head.m, head.orders[k]);
         k += 1;
     }
     start
@@ -108,8 +109,9 @@ fn column_record(problem: &[u8], j: usize) -> Piece
     ensures { λ r. ⌜ ColumnPart (now (problem .entry)) j (part-of r) ⌝ }
 {
     let b = read_problem(problem);
-    let start = column_start(b.orders, b.m, b.n, j);
-    let size = column_bytes(b.m, b.orders[j]);
+    let head = b.problem.head;
+    let start = column_start(head, j);
+    let size = column_bytes(head.m, head.orders[j]);
     Piece {
         file: 0,
         start,
@@ -123,7 +125,8 @@ fn evidence_record<'a>(problem: &'a [u8], answer: &'a [u8]) -> Piece
     ensures { λ r. ⌜ part-of r ≡ pointed-at (now (problem .entry)) (now (answer .entry)) ⌝ }
 {
     let b = read_problem(problem);
-    let size = 2 + 4 * b.m * b.n;
+    let head = b.problem.head;
+    let size = 2 + 4 * head.m * head.n;
     Piece {
         file: 1,
         start: answer.len() - size,
@@ -161,4 +164,14 @@ pub fn cut<'a>(problem: &'a [u8], answer: &'a [u8], file: u8, start: usize, size
     } else {
         &answer[start..end]
     }
+}
+
+// problem, answer: the two files.
+// The bytes that the verdict on them points at: a part of one of them, and no copy.
+pub fn pointed_at<'a>(problem: &'a [u8], answer: &'a [u8]) -> &'a [u8]
+    ensures { λ r. ⌜ PartIn (problem .entry) (answer .entry) r (pointed-at (now (problem .entry)) (now (answer .entry))) ⌝ }
+{
+    let v = judge_files(problem, answer);
+    let x = span(problem, answer, v);
+    cut(problem, answer, x.file, x.start, x.size)
 }

@@ -1,12 +1,14 @@
--- The flat arrays of a claim: where they hold the numbers of a problem and of an answer, what the code computes from them is what the
--- rules say of the problem and the answer.
---   product-rules, low-fault-rules, order-fault-rules                      condition 3
+-- What the code computes from the arrays of a claim is what the rules say of the claim.
+--   factors-of               what is asked of the factors
+--   product-rules, order-rules, low-fault-rules, order-fault-rules         condition 3
 --   first-low-place, first-order-place                                     the first place of each fault
 use mathlib.Core.Path.{_≡_, ap, ap₂, fun-ext, _∙_}
-use mathlib.Core.Bool.{true, false, not}
+use mathlib.Core.Bool.{not}
 use mathlib.Core.List.{List}
 use Prim.Native.Nat.{ℕ, _<_}
+use native.Mathlib.Nat.{le-of-lt}
 use lib.Dec.{eqb}
+use lib.ListN.{getD}
 use Rattle.algebra.specs.Residue.{K, red}
 use Rattle.algebra.specs.Series.{Series}
 use Rattle.algebra.specs.Matrix.{vmul-cong, mmul}
@@ -15,46 +17,67 @@ use Rattle.rules.specs.Claim.{Problem}
 use Rattle.rules.specs.Matrices.{order, matrix-P, matrix-F, product}
 use Rattle.rules.specs.Conditions.{some-below, low-fault, order-fault, first-place}
 use Rattle.layout.specs.Flat.{cells, column-cells}
-use Rattle.layout.specs.Holds.{EntryCells, ColumnCells, Orders, Constants}
-use Rattle.product.specs.Product.{flat-product}
-use Rattle.product.specs.Faults.{low-test, flat-low-fault, flat-order-fault, flat-fault}
+use Rattle.claim.specs.declared.Head.{Head}
+use Rattle.claim.specs.Claims.{problem-of, basis-of, constants-of}
+use Rattle.claim.specs.Sound.{SoundHead, SoundColumns, SoundBasis}
+use Rattle.claim.specs.Holds.{holds-orders, holds-columns, holds-entries, holds-constants}
+use Rattle.product.specs.Product.{Factors, flat-product}
+use Rattle.product.specs.Faults.{low-test, flat-low-fault, flat-order-fault}
 use Rattle.product.specs.Search.{some-below-cong, first-place-cong}
 
-module _ (b : Problem) (P : List (List (List ℕ))) (entries f orders : List ℕ) where
+-- What the product asks of its factors.
+pub factors-of : {head : Head} {f lengths entries : List ℕ} → SoundHead head → SoundColumns head f → SoundBasis head lengths entries
+    → Factors (head .p) entries lengths f
+factors-of sound-head sound-columns sound-basis =
+    record {
+      modulus-positive = le-of-lt (sound-head .prime .two-le);
+      modulus-most = sound-head .prime-most;
+      entry-below = sound-basis .P-below;
+      column-below = sound-columns .F-below;
+      padded = sound-basis .P-padded;
+    }
+
+module _ (head : Head) (f lengths entries : List ℕ) (sound-head : SoundHead head) (sound-columns : SoundColumns head f)
+    (sound-basis : SoundBasis head lengths entries) where
+  abbrev b : Problem
+  b = problem-of head f
+
+  abbrev P : List (List (List ℕ))
+  P = basis-of (head .m) lengths entries
+
   -- Condition 3: the coefficients of the product …
-  pub product-rules : EntryCells b P entries → ColumnCells b f → (i j : ℕ) → i < b .m → j < b .n → (k : ℕ)
-      → flat-product (b .p) entries f (b .m) i j k ≡ product b P i j k
+  pub product-rules : (i j : ℕ) → i < head .m → j < head .n → (k : ℕ) → flat-product (head .p) entries f (head .m) i j k ≡ product b P i j k
   unfolding flat-product product mmul
-  product-rules ha hf i j hi hj k =
+  product-rules i j hi hj k =
       ap (λ s. s k)
-      (vmul-cong (Series (K (b .p))) (b .m) (cells (b .p) entries i) (series-entries (K (b .p)) (matrix-P b P) i) (column-cells (b .p) f) (series-entries (K (b .p)) (matrix-F b)) j
-      (λ l h. fun-ext (λ k. ap (red (b .p)) (ha i l k hi h))) (λ l h. fun-ext (λ k. ap (red (b .p)) (hf l j k h hj))))
+      (vmul-cong (Series (K (head .p))) (head .m) (cells (head .p) entries i) (series-entries (K (head .p)) (matrix-P b P) i) (column-cells (head .p) f)
+      (series-entries (K (head .p)) (matrix-F b)) j
+      (λ l h. fun-ext (λ k. ap (red (head .p)) (holds-entries head f lengths entries sound-head sound-basis i l k hi h)))
+      (λ l h. fun-ext (λ k. ap (red (head .p)) (holds-columns head f sound-columns l j k h hj))))
+
+  -- … at the order …
+  pub order-rules : (i j : ℕ) → i < head .m → j < head .n
+      → flat-product (head .p) entries f (head .m) i j (getD (head .orders) j 0) .0 ≡ product b P i j (order b j) .0
+  order-rules i j hi hj =
+      ap (λ d. flat-product (head .p) entries f (head .m) i j d .0) (holds-orders head f j hj) ∙ ap (λ x. x .0) (product-rules i j hi hj (order b j))
 
   -- … and the faults.
-  pub low-fault-rules : EntryCells b P entries → ColumnCells b f → Orders b orders → (i j : ℕ) → i < b .m → j < b .n
-      → flat-low-fault (b .p) entries f (b .m) orders i j ≡ low-fault b P i j
+  pub low-fault-rules : (i j : ℕ) → i < head .m → j < head .n → flat-low-fault head f entries i j ≡ low-fault b P i j
   unfolding flat-low-fault low-fault
-  low-fault-rules ha hf ho i j hi hj =
-      ap (λ d. some-below d (low-test (b .p) entries f (b .m) i j)) (ho j hj)
-      ∙ some-below-cong (order b j) (low-test (b .p) entries f (b .m) i j) (λ k. not (eqb (product b P i j k .0) 0))
-      (λ k h. ap (λ x. not (eqb (x .0) 0)) (product-rules ha hf i j hi hj k))
+  low-fault-rules i j hi hj =
+      ap (λ d. some-below d (low-test head f entries i j)) (holds-orders head f j hj)
+      ∙ some-below-cong (order b j) (low-test head f entries i j) (λ k. not (eqb (product b P i j k .0) 0))
+      (λ k h. ap (λ x. not (eqb (x .0) 0)) (product-rules i j hi hj k))
 
-  pub order-fault-rules : EntryCells b P entries → ColumnCells b f → Orders b orders → (C : List (List ℕ)) (c : List ℕ) → Constants b C c → (i j : ℕ) → i < b .m → j < b .n
-      → flat-order-fault (b .p) entries f (b .m) orders c i j ≡ order-fault b P C i j
+  pub order-fault-rules : (c : List ℕ) (i j : ℕ) → i < head .m → j < head .n
+      → flat-order-fault head f entries c i j ≡ order-fault b P (constants-of (head .m) (head .n) c) i j
   unfolding flat-order-fault order-fault
-  order-fault-rules ha hf ho C c hc i j hi hj =
-      ap₂ (λ x y. not (eqb x y)) (ap (λ d. flat-product (b .p) entries f (b .m) i j d .0) (ho j hj) ∙ ap (λ x. x .0) (product-rules ha hf i j hi hj (order b j)))
-      (hc i j hi hj)
+  order-fault-rules c i j hi hj = ap₂ (λ x y. not (eqb x y)) (order-rules i j hi hj) (holds-constants head f c i j hi hj)
 
   -- The first place of each.
-  pub first-low-place : EntryCells b P entries → ColumnCells b f → Orders b orders → (c : List ℕ)
-      → first-place (b .m) (b .n) (flat-fault false (b .p) entries f (b .m) orders c) ≡ first-place (b .m) (b .n) (low-fault b P)
-  unfolding flat-fault
-  first-low-place ha hf ho c =
-      first-place-cong (b .m) (b .n) (flat-fault false (b .p) entries f (b .m) orders c) (low-fault b P) (low-fault-rules ha hf ho)
+  pub first-low-place : first-place (head .m) (head .n) (flat-low-fault head f entries) ≡ first-place (head .m) (head .n) (low-fault b P)
+  first-low-place = first-place-cong (head .m) (head .n) (flat-low-fault head f entries) (low-fault b P) low-fault-rules
 
-  pub first-order-place : EntryCells b P entries → ColumnCells b f → Orders b orders → (C : List (List ℕ)) (c : List ℕ) → Constants b C c
-      → first-place (b .m) (b .n) (flat-fault true (b .p) entries f (b .m) orders c) ≡ first-place (b .m) (b .n) (order-fault b P C)
-  unfolding flat-fault
-  first-order-place ha hf ho C c hc =
-      first-place-cong (b .m) (b .n) (flat-fault true (b .p) entries f (b .m) orders c) (order-fault b P C) (order-fault-rules ha hf ho C c hc)
+  pub first-order-place : (c : List ℕ) → first-place (head .m) (head .n) (flat-order-fault head f entries c)
+      ≡ first-place (head .m) (head .n) (order-fault b P (constants-of (head .m) (head .n) c))
+  first-order-place c = first-place-cong (head .m) (head .n) (flat-order-fault head f entries c) (order-fault b P (constants-of (head .m) (head .n) c)) (order-fault-rules c)

@@ -7,6 +7,7 @@ ghost use Rattle.layout.specs.Flat.{entry-coefficients, column-coefficients};
 ghost use Rattle.layout.specs.Holds.{Each, Padded};
 ghost use Rattle.product.specs.Total.{Grown, Within, Summed};
 ghost use Rattle.product.specs.Product.{Factors, dot, first-power, powers, pair-number, product-number, flat-product};
+use claim::Head;
 use field::CUT;
 use layout::COLUMN_COEFFICIENTS;
 use layout::ENTRY_COEFFICIENTS;
@@ -30,14 +31,14 @@ fn wide(x: u32) -> u64
     x as u64
 }
 
-// total: a sum. x, y: places in entries and f, from which one goes up and the other down. count: how far.
+// total: a sum. y, x: places in f and entries, from which one goes down and the other up. count: how far.
 // The sum with the products of the coefficients there added.
 fn add_products<'a>(
     total: Total,
-    entries: &'a [u32; ENTRY_COEFFICIENTS],
     f: &'a [u32; COLUMN_COEFFICIENTS],
-    x: usize,
+    entries: &'a [u32; ENTRY_COEFFICIENTS],
     y: usize,
+    x: usize,
     count: usize,
 ) -> Total
     requires { ⌜ Each (2 ^ 31) (now entries) × Each (2 ^ 31) (now f) ⌝ }
@@ -82,13 +83,13 @@ fn powers(length: usize, k: usize) -> usize
     }
 }
 
-// total: a sum. entries, lengths, f: of P and F. i, l, j: a row of P, its column and so the row of F, and a column of F. k: a power.
+// total: a sum. f, lengths, entries: of a claim. i, l, j: a row of P, its column and so the row of F, and a column of F. k: a power.
 // The sum with the products added that the entries of P and F there give to the power k.
 fn add_entry<'a>(
     total: Total,
-    entries: &'a [u32; ENTRY_COEFFICIENTS],
-    lengths: &'a [usize; SQUARE],
     f: &'a [u32; COLUMN_COEFFICIENTS],
+    lengths: &'a [usize; SQUARE],
+    entries: &'a [u32; ENTRY_COEFFICIENTS],
     i: usize,
     l: usize,
     j: usize,
@@ -103,28 +104,29 @@ fn add_entry<'a>(
     let count = powers(lengths[square_place(i, l)], k);
     let x = entry_place(i, l, first);
     let y = column_place(l, j, k - first);
-    add_products(total, entries, f, x, y, count)
+    add_products(total, f, entries, y, x, count)
 }
 
-// entries, lengths, f, m: of P and F. i, j: a row and a column. k: a power, at most the largest order.
+// head, f, lengths, entries: of a claim. i, j: a row and a column. k: a power, at most the largest order.
 // The sum of the products that make the coefficient of P·F there at that power.
 fn entry_total<'a>(
-    entries: &'a [u32; ENTRY_COEFFICIENTS],
-    lengths: &'a [usize; SQUARE],
+    head: Head,
     f: &'a [u32; COLUMN_COEFFICIENTS],
-    m: usize,
+    lengths: &'a [usize; SQUARE],
+    entries: &'a [u32; ENTRY_COEFFICIENTS],
     i: usize,
     j: usize,
     k: usize,
 ) -> Total
     requires { ⌜ Each (2 ^ 31) (now entries) × (Each (2 ^ 31) (now f) × Padded most-rows (now entries) (now lengths)) ⌝ }
-    requires { ⌜ (m ≤ most-rows) × ((i < most-rows) × ((j < most-rows) × (k ≤ most-order))) ⌝ }
-    ensures { λ r. ⌜ Summed (most-rows * most-length) (product-number (now (entries .entry)) (now (f .entry)) m i j k) (r .high) (r .low) ⌝ }
+    requires { ⌜ (head .m ≤ most-rows) × ((i < most-rows) × ((j < most-rows) × (k ≤ most-order))) ⌝ }
+    ensures { λ r. ⌜ Summed (most-rows * most-length) (product-number (now (entries .entry)) (now (f .entry)) (head .m) i j k) (r .high) (r .low) ⌝ }
 {
+    let m = head.m;
     let mut total = Total { high: 0, low: 0 };
     let mut l = 0;
     while l < m {
-        let next = add_entry(total, entries, lengths, f, i, l, j, k);
+        let next = add_entry(total, f, lengths, entries, i, l, j, k);
         total = next;
         l += 1;
     }
@@ -143,24 +145,23 @@ fn residue(total: Total, p: u32, fold: u32) -> u32
     (folded % wide(p)) as u32
 }
 
-// entries, lengths, f, p, m: of P and F. fold: 2^40 modulo p. i, j: a row and a column. k: a power, at most the largest order.
+// head, f, lengths, entries: of a claim. fold: 2^40 modulo p. i, j: a row and a column. k: a power, at most the largest order.
 // The coefficient of P·F there at that power, modulo p.
 pub(crate) fn coefficient<'a>(
-    entries: &'a [u32; ENTRY_COEFFICIENTS],
-    lengths: &'a [usize; SQUARE],
+    head: Head,
     f: &'a [u32; COLUMN_COEFFICIENTS],
-    p: u32,
+    lengths: &'a [usize; SQUARE],
+    entries: &'a [u32; ENTRY_COEFFICIENTS],
     fold: u32,
-    m: usize,
     i: usize,
     j: usize,
     k: usize,
 ) -> u32
-    requires { ⌜ Factors p (now entries) (now lengths) (now f) ⌝ }
-    requires { ⌜ (m ≤ most-rows) × ((i < most-rows) × ((j < most-rows) × (k ≤ most-order))) ⌝ }
-    requires { ⌜ fold ≡ cut % p ⌝ }
-    ensures { λ r. ⌜ r ≡ flat-product p (now (entries .entry)) (now (f .entry)) m i j k .0 ⌝ }
+    requires { ⌜ Factors (head .p) (now entries) (now lengths) (now f) ⌝ }
+    requires { ⌜ (head .m ≤ most-rows) × ((i < most-rows) × ((j < most-rows) × (k ≤ most-order))) ⌝ }
+    requires { ⌜ fold ≡ cut % head .p ⌝ }
+    ensures { λ r. ⌜ r ≡ flat-product (head .p) (now (entries .entry)) (now (f .entry)) (head .m) i j k .0 ⌝ }
 {
-    let total = entry_total(entries, lengths, f, m, i, j, k);
-    residue(total, p, fold)
+    let total = entry_total(head, f, lengths, entries, i, j, k);
+    residue(total, head.p, fold)
 }

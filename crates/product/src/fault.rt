@@ -7,13 +7,13 @@ ghost use Rattle.rules.specs.Conditions.{first-place};
 ghost use Rattle.rules.specs.Sizes.{most-rows};
 ghost use Rattle.layout.specs.Holds.{Ordered};
 ghost use Rattle.product.specs.Product.{Factors, flat-product};
-ghost use Rattle.product.specs.Faults.{flat-low-fault, flat-order-fault, flat-fault, place-of};
+ghost use Rattle.product.specs.Faults.{flat-low-fault, flat-order-fault, place-of};
 ghost use Rattle.product.specs.Search.{First};
 use crate::coefficient::coefficient;
+use claim::Head;
 use field::cut_mod;
 use layout::COLUMN_COEFFICIENTS;
 use layout::ENTRY_COEFFICIENTS;
-use layout::ROWS;
 use layout::SQUARE;
 use layout::square_place;
 
@@ -23,28 +23,26 @@ pub enum FirstFault {
     Nowhere,
 }
 
-// entries, lengths, f, orders, p, m: of P and F. i, j: a row and a column.
+// head, f, lengths, entries: of a claim. i, j: a row and a column.
 // Whether some coefficient of P·F there below the column's order is not 0.
 fn low_fault<'a>(
-    entries: &'a [u32; ENTRY_COEFFICIENTS],
-    lengths: &'a [usize; SQUARE],
+    head: Head,
     f: &'a [u32; COLUMN_COEFFICIENTS],
-    orders: [usize; ROWS],
-    p: u32,
-    m: usize,
+    lengths: &'a [usize; SQUARE],
+    entries: &'a [u32; ENTRY_COEFFICIENTS],
     i: usize,
     j: usize,
 ) -> bool
-    requires { ⌜ Factors p (now entries) (now lengths) (now f) ⌝ }
-    requires { ⌜ Ordered orders ⌝ }
-    requires { ⌜ (m ≤ most-rows) × ((i < most-rows) × (j < most-rows)) ⌝ }
-    ensures { λ r. ⌜ r ≡ flat-low-fault p (now (entries .entry)) (now (f .entry)) m orders i j ⌝ }
+    requires { ⌜ Factors (head .p) (now entries) (now lengths) (now f) ⌝ }
+    requires { ⌜ Ordered (head .orders) ⌝ }
+    requires { ⌜ (head .m ≤ most-rows) × ((i < most-rows) × (j < most-rows)) ⌝ }
+    ensures { λ r. ⌜ r ≡ flat-low-fault head (now (f .entry)) (now (entries .entry)) i j ⌝ }
 {
-    let order = orders[j];
-    let fold = cut_mod(p);
+    let order = head.orders[j];
+    let fold = cut_mod(head.p);
     let mut k = 0;
     while k < order {
-        if coefficient(entries, lengths, f, p, fold, m, i, j, k) != 0 {
+        if coefficient(head, f, lengths, entries, fold, i, j, k) != 0 {
             return true;
         }
         k += 1;
@@ -52,97 +50,72 @@ fn low_fault<'a>(
     false
 }
 
-// entries, lengths, f, orders, p, m: of P and F. i, j: a row and a column.
+// head, f, lengths, entries: of a claim. i, j: a row and a column.
 // The coefficient of P·F there at the column's order, modulo p: the number of C that is due, and that of the evidence.
 pub fn order_coefficient<'a>(
-    entries: &'a [u32; ENTRY_COEFFICIENTS],
-    lengths: &'a [usize; SQUARE],
+    head: Head,
     f: &'a [u32; COLUMN_COEFFICIENTS],
-    orders: [usize; ROWS],
-    p: u32,
-    m: usize,
+    lengths: &'a [usize; SQUARE],
+    entries: &'a [u32; ENTRY_COEFFICIENTS],
     i: usize,
     j: usize,
 ) -> u32
-    requires { ⌜ Factors p (now entries) (now lengths) (now f) ⌝ }
-    requires { ⌜ Ordered orders ⌝ }
-    requires { ⌜ (m ≤ most-rows) × ((i < most-rows) × (j < most-rows)) ⌝ }
-    ensures { λ r. ⌜ r ≡ flat-product p (now (entries .entry)) (now (f .entry)) m i j (getD orders j 0) .0 ⌝ }
+    requires { ⌜ Factors (head .p) (now entries) (now lengths) (now f) ⌝ }
+    requires { ⌜ Ordered (head .orders) ⌝ }
+    requires { ⌜ (head .m ≤ most-rows) × ((i < most-rows) × (j < most-rows)) ⌝ }
+    ensures { λ r. ⌜ r ≡ flat-product (head .p) (now (entries .entry)) (now (f .entry)) (head .m) i j (getD (head .orders) j 0) .0 ⌝ }
 {
-    coefficient(entries, lengths, f, p, cut_mod(p), m, i, j, orders[j])
+    coefficient(
+        head,
+        f,
+        lengths,
+        entries,
+        cut_mod(head.p),
+        i,
+        j,
+        head.orders[j],
+    )
 }
 
-// entries, lengths, f, orders, c, p, m: of P, F and C. i, j: a row and a column.
+// head, f, lengths, entries, c: of a claim. i, j: a row and a column.
 // Whether the coefficient of P·F there at the column's order differs from C's number.
 fn order_fault<'a>(
-    entries: &'a [u32; ENTRY_COEFFICIENTS],
-    lengths: &'a [usize; SQUARE],
+    head: Head,
     f: &'a [u32; COLUMN_COEFFICIENTS],
-    orders: [usize; ROWS],
+    lengths: &'a [usize; SQUARE],
+    entries: &'a [u32; ENTRY_COEFFICIENTS],
     c: &'a [u32; SQUARE],
-    p: u32,
-    m: usize,
     i: usize,
     j: usize,
 ) -> bool
-    requires { ⌜ Factors p (now entries) (now lengths) (now f) ⌝ }
-    requires { ⌜ Ordered orders ⌝ }
-    requires { ⌜ (m ≤ most-rows) × ((i < most-rows) × (j < most-rows)) ⌝ }
-    ensures { λ r. ⌜ r ≡ flat-order-fault p (now (entries .entry)) (now (f .entry)) m orders (now (c .entry)) i j ⌝ }
+    requires { ⌜ Factors (head .p) (now entries) (now lengths) (now f) ⌝ }
+    requires { ⌜ Ordered (head .orders) ⌝ }
+    requires { ⌜ (head .m ≤ most-rows) × ((i < most-rows) × (j < most-rows)) ⌝ }
+    ensures { λ r. ⌜ r ≡ flat-order-fault head (now (f .entry)) (now (entries .entry)) (now (c .entry)) i j ⌝ }
 {
-    let due = order_coefficient(entries, lengths, f, orders, p, m, i, j);
+    let due = order_coefficient(head, f, lengths, entries, i, j);
     let given = c[square_place(i, j)];
     due != given
 }
 
-// entries, lengths, f, orders, c, p, m: of P, F and C. at_order: which of the two tests. i, j: a row and a column.
-// Whether there is a fault there.
-fn fault<'a>(
-    entries: &'a [u32; ENTRY_COEFFICIENTS],
-    lengths: &'a [usize; SQUARE],
+// head, f, lengths, entries: of a claim. i: a row.
+// The first column in that row with a fault below its order, or n.
+fn low_column<'a>(
+    head: Head,
     f: &'a [u32; COLUMN_COEFFICIENTS],
-    orders: [usize; ROWS],
-    c: &'a [u32; SQUARE],
-    p: u32,
-    m: usize,
-    at_order: bool,
-    i: usize,
-    j: usize,
-) -> bool
-    requires { ⌜ Factors p (now entries) (now lengths) (now f) ⌝ }
-    requires { ⌜ Ordered orders ⌝ }
-    requires { ⌜ (m ≤ most-rows) × ((i < most-rows) × (j < most-rows)) ⌝ }
-    ensures { λ r. ⌜ r ≡ flat-fault «at_order» p (now (entries .entry)) (now (f .entry)) m orders (now (c .entry)) i j ⌝ }
-{
-    if at_order {
-        order_fault(entries, lengths, f, orders, c, p, m, i, j)
-    } else {
-        low_fault(entries, lengths, f, orders, p, m, i, j)
-    }
-}
-
-// entries, lengths, f, orders, c, p, m, n: of P, F and C. at_order: which of the two tests. i: a row.
-// The first column with a fault in that row, or n.
-fn fault_column<'a>(
-    entries: &'a [u32; ENTRY_COEFFICIENTS],
     lengths: &'a [usize; SQUARE],
-    f: &'a [u32; COLUMN_COEFFICIENTS],
-    orders: [usize; ROWS],
-    c: &'a [u32; SQUARE],
-    p: u32,
-    m: usize,
-    n: usize,
-    at_order: bool,
+    entries: &'a [u32; ENTRY_COEFFICIENTS],
     i: usize,
 ) -> usize
-    requires { ⌜ Factors p (now entries) (now lengths) (now f) ⌝ }
-    requires { ⌜ Ordered orders ⌝ }
-    requires { ⌜ (m ≤ most-rows) × ((n ≤ most-rows) × (i < most-rows)) ⌝ }
-    ensures { λ r. ⌜ First n (flat-fault «at_order» p (now (entries .entry)) (now (f .entry)) m orders (now (c .entry)) i) r ⌝ }
+    requires { ⌜ Factors (head .p) (now entries) (now lengths) (now f) ⌝ }
+    requires { ⌜ Ordered (head .orders) ⌝ }
+    requires { ⌜ (head .m ≤ most-rows) × ((head .n ≤ most-rows) × (i < most-rows)) ⌝ }
+    ensures { λ r. ⌜ First (head .n) (flat-low-fault head (now (f .entry)) (now (entries .entry)) i) r ⌝ }
 {
+    let n = head.n;
     let mut j = 0;
     while j < n {
-        if fault(entries, lengths, f, orders, c, p, m, at_order, i, j) {
+        if low_fault(head, f, lengths, entries, i, j) {
             return j;
         }
         j += 1;
@@ -150,29 +123,79 @@ fn fault_column<'a>(
     n
 }
 
-// entries, lengths, f, orders, c, p, m, n: of P, F and C. at_order: which of the two tests.
-// "the first row that has a fault and in it the first column".
-pub fn first_fault<'a>(
-    entries: &'a [u32; ENTRY_COEFFICIENTS],
-    lengths: &'a [usize; SQUARE],
+// head, f, lengths, entries, c: of a claim. i: a row.
+// The first column in that row with a fault at its order, or n.
+fn order_column<'a>(
+    head: Head,
     f: &'a [u32; COLUMN_COEFFICIENTS],
-    orders: [usize; ROWS],
+    lengths: &'a [usize; SQUARE],
+    entries: &'a [u32; ENTRY_COEFFICIENTS],
     c: &'a [u32; SQUARE],
-    p: u32,
-    m: usize,
-    n: usize,
-    at_order: bool,
-) -> FirstFault
-    requires { ⌜ Factors p (now entries) (now lengths) (now f) ⌝ }
-    requires { ⌜ Ordered orders ⌝ }
-    requires { ⌜ (m ≤ most-rows) × (n ≤ most-rows) ⌝ }
-    ensures { λ r. ⌜ r ≡ place-of (first-place m n (flat-fault «at_order» p (now (entries .entry)) (now (f .entry)) m orders (now (c .entry)))) ⌝ }
+    i: usize,
+) -> usize
+    requires { ⌜ Factors (head .p) (now entries) (now lengths) (now f) ⌝ }
+    requires { ⌜ Ordered (head .orders) ⌝ }
+    requires { ⌜ (head .m ≤ most-rows) × ((head .n ≤ most-rows) × (i < most-rows)) ⌝ }
+    ensures { λ r. ⌜ First (head .n) (flat-order-fault head (now (f .entry)) (now (entries .entry)) (now (c .entry)) i) r ⌝ }
 {
+    let n = head.n;
+    let mut j = 0;
+    while j < n {
+        if order_fault(head, f, lengths, entries, c, i, j) {
+            return j;
+        }
+        j += 1;
+    }
+    n
+}
+
+// head, f, lengths, entries: of a claim.
+// "the first row that has a fault and in it the first column", of the faults below the orders.
+pub fn first_low_fault<'a>(
+    head: Head,
+    f: &'a [u32; COLUMN_COEFFICIENTS],
+    lengths: &'a [usize; SQUARE],
+    entries: &'a [u32; ENTRY_COEFFICIENTS],
+) -> FirstFault
+    requires { ⌜ Factors (head .p) (now entries) (now lengths) (now f) ⌝ }
+    requires { ⌜ Ordered (head .orders) ⌝ }
+    requires { ⌜ (head .m ≤ most-rows) × (head .n ≤ most-rows) ⌝ }
+    ensures { λ r. ⌜ r ≡ place-of (first-place (head .m) (head .n) (flat-low-fault head (now (f .entry)) (now (entries .entry)))) ⌝ }
+{
+    let m = head.m;
+    let n = head.n;
     let mut i = 0;
     while i < m {
-        let j = fault_column(entries, lengths, f, orders, c, p, m, n, at_order, i);
+        let j = low_column(head, f, lengths, entries, i);
         if j < n {
             return FirstFault::At(i, j);
+        }
+        i += 1;
+    }
+    FirstFault::Nowhere
+}
+
+// head, f, lengths, entries, c: of a claim.
+// The same of the faults at the orders.
+pub fn first_order_fault<'a>(
+    head: Head,
+    f: &'a [u32; COLUMN_COEFFICIENTS],
+    lengths: &'a [usize; SQUARE],
+    entries: &'a [u32; ENTRY_COEFFICIENTS],
+    c: &'a [u32; SQUARE],
+) -> FirstFault
+    requires { ⌜ Factors (head .p) (now entries) (now lengths) (now f) ⌝ }
+    requires { ⌜ Ordered (head .orders) ⌝ }
+    requires { ⌜ (head .m ≤ most-rows) × (head .n ≤ most-rows) ⌝ }
+    ensures { λ r. ⌜ r ≡ place-of (first-place (head .m) (head .n) (flat-order-fault head (now (f .entry)) (now (entries .entry)) (now (c .entry)))) ⌝ }
+{
+    let m = head.m;
+    let n = head.n;
+    let mut i = 0;
+    while i < m {
+        let column = order_column(head, f, lengths, entries, c, i);
+        if column < n {
+            return FirstFault::At(i, column);
         }
         i += 1;
     }

@@ -7,5 +7,6 @@ pub mod Records
 pub mod Values
 pub mod Poured
 pub mod Arrays
-pub mod Held
+pub mod Stands
+pub mod Readings
 pub mod Unique

@@ -8,17 +8,21 @@ ghost use Rattle.place.specs.Places.{refusal, place};
 ghost use Rattle.layout.specs.Flat.{square, entry-coefficients, column-coefficients};
 ghost use Rattle.reader.specs.Flat.{filled};
 ghost use Rattle.reader.specs.Extent.{Narrow};
-ghost use Rattle.reader.specs.Values.{refusal-value, no-refusal, problem-value, answer-value, answer-of, with-arrays, with-entries, begun-off, begun-on};
+ghost use Rattle.reader.specs.Values.{refusal-value, no-refusal, problem-value, answer-value, read-answer, with-arrays, with-entries, answer-with, beside, begun-off, begun-on};
 
 mod answer_file;
 mod problem_file;
 mod runs;
 
 use crate::answer_file::read_all;
-use crate::problem_file::Head;
 use crate::problem_file::Headed;
+use crate::problem_file::Sizes;
 use crate::problem_file::read_body;
 use crate::problem_file::read_head;
+use claim::Answer;
+use claim::Basis;
+use claim::Head;
+use claim::Problem;
 use layout::COLUMN_COEFFICIENTS;
 use layout::ENTRY_COEFFICIENTS;
 use layout::ROWS;
@@ -28,25 +32,18 @@ use place::Stop;
 use place::front;
 use verdict::Refusal;
 
-// A problem: where `ok`, p, m, n, the orders of the columns, the shifts of the rows and the coefficients of F; else the refusal. Every other number is 0.
-pub struct Problem {
+// The reading of a problem: where `ok`, the problem; else the refusal. Every other number is 0.
+pub struct ReadProblem {
     pub ok: bool,
     pub refusal: Refusal,
-    pub p: u32,
-    pub m: usize,
-    pub n: usize,
-    pub orders: [usize; ROWS],
-    pub shifts: [i32; ROWS],
-    pub f: [u32; COLUMN_COEFFICIENTS],
+    pub problem: Problem,
 }
 
-// An answer: where `ok`, the lengths of P's entries, their coefficients, and C; else the refusal. Every other number is 0.
-pub struct Answer {
+// The reading of an answer: where `ok`, the answer; else the refusal. Every other number is 0.
+pub struct ReadAnswer {
     pub ok: bool,
     pub refusal: Refusal,
-    pub lengths: [usize; SQUARE],
-    pub entries: [u32; ENTRY_COEFFICIENTS],
-    pub c: [u32; SQUARE],
+    pub answer: Answer,
 }
 
 // A problem without its arrays.
@@ -62,6 +59,14 @@ struct Begun {
 struct Ended {
     ok: bool,
     refusal: Refusal,
+}
+
+// An answer without the coefficients of P.
+struct Beside {
+    ok: bool,
+    refusal: Refusal,
+    lengths: [usize; SQUARE],
+    c: [u32; SQUARE],
 }
 
 // Orders, all 0.
@@ -104,6 +109,17 @@ fn no_evidence() -> [u32; SQUARE]
     ensures { λ r. ⌜ r ≡ filled square 0 ⌝ }
 {
     [0; SQUARE]
+}
+
+// An answer, all 0.
+fn no_answer() -> Answer
+    ensures { λ r. ⌜ r ≡ answer-with (filled square 0) (filled entry-coefficients 0) (filled square 0) ⌝ }
+{
+    let lengths = no_lengths();
+    let entries = no_entries();
+    let c = no_evidence();
+    let basis = Basis { lengths, entries };
+    Answer { basis, c }
 }
 
 // x: a refusal, whose offsets fit 32 bits.
@@ -153,7 +169,7 @@ fn off(x: Stop) -> Begun
 
 // h: what the `PR` record holds.
 // A problem with these numbers that was read.
-fn on(h: Head) -> Begun
+fn on(h: Sizes) -> Begun
     ensures { λ r. ⌜ r ≡ begun-on (h .p) (h .m) (h .n) ⌝ }
 {
     let refusal = accepted();
@@ -194,7 +210,7 @@ fn problem_into(
 
 // s: the problem file, of any bytes.
 // The problem, or the refusal.
-pub fn read_problem(s: &[u8]) -> Problem
+pub fn read_problem(s: &[u8]) -> ReadProblem
     ensures { λ r. ⌜ r ≡ problem-value (read-problem (now (s .entry))) ⌝ }
 {
     let mut orders = no_orders();
@@ -202,36 +218,47 @@ pub fn read_problem(s: &[u8]) -> Problem
     let mut f = no_coefficients();
     let b = problem_into(s, &mut orders, &mut shifts, &mut f);
     let refusal = b.refusal;
-    Problem {
-        ok: b.ok,
-        refusal,
+    let head = Head {
         p: b.p,
         m: b.m,
         n: b.n,
         orders,
         shifts,
-        f,
+    };
+    let problem = Problem { head, f };
+    ReadProblem {
+        ok: b.ok,
+        refusal,
+        problem,
     }
 }
 
-// t: the answer file, of any bytes. p, m and n: the problem's. with_evidence: whether the `CE` record is due. lengths, entries and c: all 0;
+// t: the answer file, of any bytes. head: the problem's. with_evidence: whether the `CE` record is due. lengths, entries and c: all 0;
 // where the entries' lengths and coefficients and C go. They are all 0 again where the answer is refused.
 // The rest of the answer.
 fn answer_into(
     t: &[u8],
-    p: u32,
-    m: usize,
-    n: usize,
+    head: Head,
     with_evidence: bool,
     lengths: &mut [usize; SQUARE],
     entries: &mut [u32; ENTRY_COEFFICIENTS],
     c: &mut [u32; SQUARE],
 ) -> Ended
-    requires { ⌜ (m ≤ most-rows) × (n ≤ most-rows) ⌝ }
+    requires { ⌜ (head .m ≤ most-rows) × (head .n ≤ most-rows) ⌝ }
     requires { ⌜ (now lengths ≡ filled square 0) × ((now entries ≡ filled entry-coefficients 0) × (now c ≡ filled square 0)) ⌝ }
-    ensures { λ r. ⌜ with-entries r (now (lengths .exit)) (now (entries .exit)) (now (c .exit)) ≡ answer-value (answer-of p m n «with_evidence» (now (t .entry))) ⌝ }
+    ensures { λ r. ⌜ with-entries r (now (lengths .exit)) (now (entries .exit)) (now (c .exit)) ≡ answer-value (read-answer (head .p) (head .m) (head .n) «with_evidence» (now (t .entry))) ⌝ }
 {
-    match read_all(t, front(1), p, m, n, with_evidence, lengths, entries, c) {
+    match read_all(
+        t,
+        front(1),
+        head.p,
+        head.m,
+        head.n,
+        with_evidence,
+        lengths,
+        entries,
+        c,
+    ) {
         Going::Off(x) => {
             *lengths = no_lengths();
             *entries = no_entries();
@@ -248,31 +275,55 @@ fn answer_into(
     }
 }
 
-// t: the answer file, of any bytes. p, m and n: the problem's. with_evidence: whether the `CE` record is due; without it the file ends after the last entry.
-// The answer, with C all 0 where it was not due, or the refusal.
-pub fn read_answer(t: &[u8], p: u32, m: usize, n: usize, with_evidence: bool) -> Answer
-    requires { ⌜ (m ≤ most-rows) × (n ≤ most-rows) ⌝ }
-    ensures { λ r. ⌜ r ≡ answer-value (answer-of p m n «with_evidence» (now (t .entry))) ⌝ }
+// t: the answer file, of any bytes. head: the problem's. with_evidence: whether the `CE` record is due. entries: all 0; where the entries'
+// coefficients go. They are all 0 again where the answer is refused.
+// The rest of the answer.
+fn answer_beside(
+    t: &[u8],
+    head: Head,
+    with_evidence: bool,
+    entries: &mut [u32; ENTRY_COEFFICIENTS],
+) -> Beside
+    requires { ⌜ (head .m ≤ most-rows) × (head .n ≤ most-rows) ⌝ }
+    requires { ⌜ now entries ≡ filled entry-coefficients 0 ⌝ }
+    ensures { λ r. ⌜ beside r (now (entries .exit)) ≡ answer-value (read-answer (head .p) (head .m) (head .n) «with_evidence» (now (t .entry))) ⌝ }
 {
     let mut lengths = no_lengths();
-    let mut entries = no_entries();
     let mut c = no_evidence();
-    let a = answer_into(
-        t,
-        p,
-        m,
-        n,
-        with_evidence,
-        &mut lengths,
-        &mut entries,
-        &mut c,
-    );
+    let a = answer_into(t, head, with_evidence, &mut lengths, entries, &mut c);
     let refusal = a.refusal;
-    Answer {
+    Beside {
         ok: a.ok,
         refusal,
         lengths,
-        entries,
         c,
+    }
+}
+
+// Puts the lengths in their place.
+fn put_lengths(out: &mut [usize; SQUARE], lengths: [usize; SQUARE])
+    ensures { λ r. ⌜ now (out .exit) ≡ lengths ⌝ }
+{
+    *out = lengths;
+}
+
+// t: the answer file, of any bytes. head: the problem's. with_evidence: whether the `CE` record is due; without it the file ends after the last entry.
+// The answer, with C all 0 where it was not due, or the refusal. The coefficients are read where they lie in the answer: a struct of arrays
+// that is made of another one is copied once more.
+pub fn read_answer(t: &[u8], head: Head, with_evidence: bool) -> ReadAnswer
+    requires { ⌜ (head .m ≤ most-rows) × (head .n ≤ most-rows) ⌝ }
+    ensures { λ r. ⌜ r ≡ answer-value (read-answer (head .p) (head .m) (head .n) «with_evidence» (now (t .entry))) ⌝ }
+{
+    let mut answer = no_answer();
+    let a = answer_beside(t, head, with_evidence, &mut answer.basis.entries);
+    let lengths = a.lengths;
+    put_lengths(&mut answer.basis.lengths, lengths);
+    let c = a.c;
+    answer.c = c;
+    let refusal = a.refusal;
+    ReadAnswer {
+        ok: a.ok,
+        refusal,
+        answer,
     }
 }

@@ -39,7 +39,7 @@ const SH: u32 = 0x53 + 256 * 0x48;
 const FC: u32 = 0x46 + 256 * 0x43;
 
 // What the `PR` record holds.
-pub(crate) struct Head {
+pub(crate) struct Sizes {
     pub p: u32,
     pub m: usize,
     pub n: usize,
@@ -47,7 +47,7 @@ pub(crate) struct Head {
 
 // What reading the `PR` record gives: its numbers and the place after it, or the refusal.
 pub(crate) enum Headed {
-    Got(Head, Place),
+    Got(Sizes, Place),
     Off(Stop),
 }
 
@@ -104,7 +104,7 @@ fn head_sizes(s: &[u8], q: Place, p: u32) -> Headed
         Field::Value(m, q1) => match read(s, q1, Test::Size, 1, ROWS as u32) {
             Field::Off(x) => Headed::Off(x),
             Field::Value(n, q2) => Headed::Got(
-                Head {
+                Sizes {
                     p,
                     m: m as usize,
                     n: n as usize,

@@ -3,8 +3,8 @@
 --   evidence-size b          the bytes that it needs
 --   make-evidence s t lent   what is answered, and what the lent buffer holds afterwards
 use mathlib.Core.Bool.{true, false}
-use mathlib.Core.List.{List, [], _∷_, _++_}
-use Prim.Native.Nat.{ℕ, zero, suc}
+use mathlib.Core.List.{List, _++_}
+use Prim.Native.Nat.{ℕ}
 use lib.Dec.{leb}
 use lib.ListN.{length, drop}
 use Rattle.rules.specs.RecordBytes.{evidence-bytes}
@@ -14,16 +14,12 @@ use Rattle.rules.specs.Files.{read-basis}
 use Rattle.rules.specs.Matrices.{order, product}
 use Rattle.rules.specs.Verdict.{Verdict, unread, no-room, written}
 use Rattle.rules.specs.Writer.{write-CE}
+use Rattle.rules.specs.Table.{table}
 
 -- What a service that writes answers, and what the lent buffer holds afterwards.
 pub record Made : Type 0 where
   pub answer : Verdict
   pub buffer : List ℕ
-
--- The list f 0, …, f (n − 1).
-unfoldable pub table : {A : Type 0} → ℕ → (ℕ → A) → List A
-table zero f = []
-table (suc n) f = f zero ∷ table n (λ i. f (suc i))
 
 -- "the `CE` record, whose number for row i and column j is the coefficient of (PF) there at power d_j, whatever lies below that power"
 unfoldable pub evidence-of : Problem → List (List (List ℕ)) → List (List ℕ)

@@ -1,5 +1,4 @@
 -- The evidence made, and the buffer lent for it.
---   length-table, getD-table, table-all        the list of f 0, …, f (n − 1)
 --   evidence-length, evidence-row-length, evidence-number      the matrix made has m rows of n numbers, each the coefficient at the order
 --   length-evidence          its record has 2 + 4 × m × n bytes
 --   evidence-valid, evidence-read      behind the basis it is read back
@@ -12,23 +11,24 @@ use mathlib.Core.Path.{_≡_, refl, sym, ap, subst, _∙_}
 use mathlib.Core.Logic.{_≢_, by-cases}
 use mathlib.Core.Bool.{Bool, true, false}
 use mathlib.Core.List.{List, [], _++_}
-use Prim.Native.Nat.{ℕ, zero, suc, _≤_, _<_}
-use native.Mathlib.Nat.{le-of-suc-le-suc, not-suc-le-zero, le-of-lt}
+use Prim.Native.Nat.{ℕ, _≤_, _<_}
+use native.Mathlib.Nat.{le-of-lt}
 use native.Mathlib.Omega.{arith}
 use native.Mathlib.Decide.{decLe}
 use lib.Dec.{leb, le→leb, leb→le}
-use lib.ListN.{length, getD, take, drop, length-append, length-drop, List·getD-eq-default}
+use lib.ListN.{length, getD, take, drop, length-append, length-drop}
 use lib.Seq.{take-at, drop-at}
 use Rattle.algebra.specs.Residue.{residue-below}
 use Rattle.rules.specs.Claim.{Problem, Answer}
 use Rattle.rules.specs.Reader.{Place, Refusal, Result, refused, got, front}
-use Rattle.rules.specs.Files.{answer-reader, claim-of, read-claim, read-basis}
+use Rattle.rules.specs.Files.{answer-reader, claim-for, read-claim, read-basis}
 use Rattle.rules.specs.Matrices.{order, product}
 use Rattle.rules.specs.Conditions.{order-fault}
 use Rattle.rules.specs.Valid.{ValidProblem, ValidBasis, ValidAnswer}
 use Rattle.rules.specs.Verdict.{unread, no-room, written, numbers}
 use Rattle.rules.specs.Writer.{write-CE, write-answer}
-use Rattle.rules.specs.Evidence.{Made, table, evidence-of, evidence-size, make-evidence}
+use Rattle.rules.specs.Table.{length-table, getD-table, table-all}
+use Rattle.rules.specs.Evidence.{Made, evidence-of, evidence-size, make-evidence}
 use Rattle.rules.specs.ByteNumbers.{AllBytes}
 use Rattle.rules.specs.ProductLaws.{no-order-fault-iff}
 use Rattle.rules.specs.BothFiles.{both-read}
@@ -38,25 +38,6 @@ use Rattle.rules.specs.BoolLaws.{true-iff, false-iff}
 use Rattle.rules.specs.WriterLaws.{length-write-CE}
 
 -- THE MATRIX
-
--- A list of f 0, …, f (n − 1) has n members, …
-pub length-table : {A : Type 0} (n : ℕ) (f : ℕ → A) → length (table n f) ≡ n
-unfolding table
-length-table zero f = refl
-length-table (suc n) f = ap suc (length-table n (λ i. f (suc i)))
-
--- … of which f i has the number i.
-pub getD-table : {A : Type 0} (n : ℕ) (f : ℕ → A) (d : A) (i : ℕ) → i < n → getD (table n f) i d ≡ f i
-unfolding table
-getD-table zero f d i h = absurd (not-suc-le-zero h)
-getD-table (suc n) f d zero h = refl
-getD-table (suc n) f d (suc i) h = getD-table n (λ i. f (suc i)) d i (le-of-suc-le-suc h)
-
--- What holds of the default and of each f i holds of everything that is looked up.
-pub table-all : {A : Type 0} (n : ℕ) (f : ℕ → A) (d : A) (Q : A → Type 0) → Q d → ((i : ℕ) → Q (f i)) → (i : ℕ) → Q (getD (table n f) i d)
-table-all n f d Q v w i = by-cases (decLe (suc i) n)
-    (λ h. subst Q (sym (getD-table n f d i h)) (w i))
-    (λ h. subst Q (sym (List·getD-eq-default (table n f) d (omega (arith, length-table n f)))) v)
 
 module _ (b : Problem) (P : List (List (List ℕ))) where
   -- The matrix made has m rows …
@@ -118,7 +99,7 @@ pub evidence-claim : (s t : List ℕ) → AllBytes t → {c : Problem × List (L
 evidence-claim s t bytes {c} {q} h =
     let (p, e, f) = basis-got s t c q h in
     let (r, k) = evidence-read s t bytes h in
-    (r, both-read answer-reader claim-of s (t ++ write-CE (evidence-of (c .0) (c .1))) e k)
+    (r, both-read answer-reader claim-for s (t ++ write-CE (evidence-of (c .0) (c .1))) e k)
 
 -- THE BUFFER
 

@@ -161,12 +161,12 @@ read-problem s = problem-reader s (front 0)
 unfoldable pub read-both : {A B : Type 0} → (Problem → Reader A) → (Problem → A → B) → List ℕ → List ℕ → Result B
 read-both answer whole s t = next (read-problem s) (λ b q. next (answer b t (front 1)) (λ a q. got (whole b a) q))
 
-abbrev pub claim-of : Problem → Answer → Claim
-claim-of b a = record { problem = b; answer = a }
+abbrev pub claim-for : Problem → Answer → Claim
+claim-for b a = record { problem = b; answer = a }
 
 -- A problem, and an answer to it.
 abbrev pub read-claim : List ℕ → List ℕ → Result Claim
-read-claim = read-both answer-reader claim-of
+read-claim = read-both answer-reader claim-for
 
 abbrev pub basis-for : Problem → List (List (List ℕ)) → Problem × List (List (List ℕ))
 basis-for b P = (b, P)

@@ -13,7 +13,7 @@ use lib.ListN.{length, getD, take, replicate, length-replicate, getD-replicate, 
 use Rattle.rules.specs.Sizes.{most-rows, most-order, most-length, largest-prime, most-shift, read-limit}
 use Rattle.rules.specs.Claim.{Problem, Answer, Claim}
 use Rattle.rules.specs.Reader.{Place, Result, refused, got, Reader, front, next}
-use Rattle.rules.specs.Files.{answer-reader, basis-reader, read-problem, read-both, claim-of, read-claim, basis-for, no-divisor, is-prime}
+use Rattle.rules.specs.Files.{answer-reader, basis-reader, read-problem, read-both, claim-for, read-claim, basis-for, no-divisor, is-prime}
 use Rattle.rules.specs.Writer.{bytes, write-each, unsigned, write-PR, write-OR, write-SH, write-FC, write-PE, write-CE, write-basis, write-problem}
 use Rattle.rules.specs.Writer.{write-answer}
 use Rattle.rules.specs.Matrices.{order, at}
@@ -165,7 +165,7 @@ pub verdict-limit : (s t : List ℕ) → verdict (take read-limit s) (take read-
 unfolding verdict read-limit
 verdict-limit s t =
     ap (λ (x : Result Claim). elim x as (λ x. Verdict) [ refused r ↦ unread r | got c q ↦ judge-claim c ])
-    (both-front answer-reader claim-of sound-answer s t read-limit (omega (arith, longest-problem-is)) (omega (arith, longest-answer-is)))
+    (both-front answer-reader claim-for sound-answer s t read-limit (omega (arith, longest-problem-is)) (omega (arith, longest-answer-is)))
 
 -- They change no evidence, and no answer of its making.
 pub evidence-limit : (s t lent : List ℕ) → make-evidence (take read-limit s) (take read-limit t) lent ≡ make-evidence s t lent

@@ -8,6 +8,7 @@ pub mod Matrices
 pub mod Valid
 pub mod Conditions
 pub mod Verdict
+pub mod Table
 pub mod Evidence
 pub mod Part
 pub mod Drawn

@@ -21,10 +21,10 @@ use Rattle.rules.specs.Sizes.{most-length}
 use Rattle.rules.specs.Claim.{Problem}
 use Rattle.rules.specs.Matrices.{at, matrix-P}
 use Rattle.rules.specs.Valid.{ValidBasis}
-use Rattle.rules.specs.Evidence.{table}
+use Rattle.rules.specs.Table.{table}
 use Rattle.rules.specs.Maker.{trimmed, listed, list-matrix}
 use Rattle.rules.specs.BoolLaws.{eqb-iff, false-iff}
-use Rattle.rules.specs.EvidenceLaws.{length-table, getD-table, table-all}
+use Rattle.rules.specs.Table.{length-table, getD-table, table-all}
 
 -- One more member in front of a list without zeros at its end.
 abbrev in-front : ℕ → List ℕ → List ℕ

@@ -25,7 +25,8 @@ use Rattle.algebra.specs.Step.{next}
 use Rattle.rules.specs.Claim.{Problem, Answer}
 use Rattle.rules.specs.Matrices.{order, at, matrix-P, product}
 use Rattle.rules.specs.Conditions.{is-zero, some-below, first-below, max-below, row-degree}
-use Rattle.rules.specs.Evidence.{table, evidence-of}
+use Rattle.rules.specs.Table.{table}
+use Rattle.rules.specs.Evidence.{evidence-of}
 
 -- THE ORDER OF THE ROWS
 

@@ -16,7 +16,8 @@ use Rattle.rules.specs.Matrices.{product}
 use Rattle.rules.specs.Conditions.{some-below, first-below, max-below, degree-of, shifted-degree-of, largest, row-degree-of}
 use Rattle.rules.specs.Writer.{write-problem, write-answer}
 use Rattle.rules.specs.Verdict.{Numbers, four}
-use Rattle.rules.specs.Evidence.{table, evidence-of}
+use Rattle.rules.specs.Table.{table}
+use Rattle.rules.specs.Evidence.{evidence-of}
 use Rattle.rules.specs.Run.{run-verdict}
 use Rattle.rules.specs.Cases.{two-by-one}
 use Rattle.rules.specs.Maker.{lower-left, next-row, first-some, find-constants, depends, take-row, take-rows, chosen, trimmed, listed, list-matrix}

@@ -38,14 +38,16 @@ use Rattle.rules.specs.Conditions.{max-below, leading-coefficient, leadi
 use Rattle.rules.specs.Conditions.{first-place, rank-matrix, rank-below}
 use Rattle.rules.specs.Verdict.{Verdict, passed, not-reduced, not-monomial, below-order, at-order, low-rank, pass-with, by-rank, by-product}
 use Rattle.rules.specs.Verdict.{judge-claim, verdict}
-use Rattle.rules.specs.Evidence.{table, evidence-of}
+use Rattle.rules.specs.Table.{table}
+use Rattle.rules.specs.Evidence.{evidence-of}
 use Rattle.rules.specs.Maker.{trimmed, listed, list-matrix, basis-after, steps-done, cut-problem, answer-after, make-answer}
 use Rattle.rules.specs.BoolLaws.{false-iff, eqb-iff}
 use Rattle.rules.specs.SearchLaws.{first-place-none}
 use Rattle.rules.specs.ReducedLaws.{reduced-iff}
 use Rattle.rules.specs.DeterminantLaws.{le-max-below, monomial-determinant-iff, degree-sum-exponent}
 use Rattle.rules.specs.ProductLaws.{no-low-fault-iff, rank-below-iff}
-use Rattle.rules.specs.EvidenceLaws.{length-table, getD-table, table-all, evidence-number, evidence-no-order-fault, evidence-valid}
+use Rattle.rules.specs.Table.{length-table, getD-table, table-all}
+use Rattle.rules.specs.EvidenceLaws.{evidence-number, evidence-no-order-fault, evidence-valid}
 use Rattle.rules.specs.RoundTrip.{read-written-claim}
 use Rattle.rules.specs.VerdictLaws.{verdict-of-claim}
 use Rattle.rules.specs.MakerLaws.{AfterBasis, after-valid, after-basis}

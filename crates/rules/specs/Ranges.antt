@@ -6,7 +6,7 @@ use mathlib.Core.List.{List}
 use Prim.Native.Nat.{ℕ}
 use Rattle.rules.specs.Reader.{Place, got, front}
 use Rattle.rules.specs.Claim.{Problem, Answer, Claim}
-use Rattle.rules.specs.Files.{answer-reader, basis-reader, read-problem, claim-of, read-claim, basis-for, read-basis}
+use Rattle.rules.specs.Files.{answer-reader, basis-reader, read-problem, claim-for, read-claim, basis-for, read-basis}
 use Rattle.rules.specs.Valid.{ValidProblem, ValidBasis, ValidAnswer, Valid}
 use Rattle.rules.specs.BothFiles.{both-parts}
 use Rattle.rules.specs.Soundness.{sound-problem, sound-answer, sound-basis}
@@ -29,7 +29,7 @@ basis-valid b valid t p h = sound-basis b valid .gives t p h .0
 pub claim-got : (s t : List ℕ) (c : Claim) (q : Place) → read-claim s t ≡ got c q
     → (p : Place) × (read-problem s ≡ got (c .problem) p) × (answer-reader (c .problem) t (front 1) ≡ got (c .answer) q)
 claim-got s t c q =
-    both-parts answer-reader claim-of s t (λ c. (p : Place) × (read-problem s ≡ got (c .problem) p) × (answer-reader (c .problem) t (front 1) ≡ got (c .answer) q))
+    both-parts answer-reader claim-for s t (λ c. (p : Place) × (read-problem s ≡ got (c .problem) p) × (answer-reader (c .problem) t (front 1) ≡ got (c .answer) q))
     (λ b p a e f. (p, e, f))
 
 -- … and of a problem and a basis that are read, each is.
@@ -41,7 +41,7 @@ basis-got s t c q =
 -- A claim that is read is valid.
 pub claim-valid : (s t : List ℕ) {c : Claim} {q : Place} → read-claim s t ≡ got c q → Valid c
 claim-valid s t =
-    both-parts answer-reader claim-of s t Valid
+    both-parts answer-reader claim-for s t Valid
     (λ b p a e f. record { valid-problem = problem-valid s e; valid-answer = answer-valid b (problem-valid s e) t (front 1) f })
 
 -- A problem and a basis that are read are valid.

@@ -13,7 +13,7 @@ use lib.ListN.{length}
 use Rattle.rules.specs.Sizes.{most-rows, most-order, most-length}
 use Rattle.rules.specs.Reader.{Place, Refusal, refused, got, Reader, front}
 use Rattle.rules.specs.Claim.{Problem}
-use Rattle.rules.specs.Files.{answer-reader, basis-reader, read-problem, read-both, claim-of, read-claim, basis-for, read-basis}
+use Rattle.rules.specs.Files.{answer-reader, basis-reader, read-problem, read-both, claim-for, read-claim, basis-for, read-basis}
 use Rattle.rules.specs.Valid.{ValidProblem}
 use Rattle.rules.specs.ReaderLaws.{Refusing, Sound}
 use Rattle.rules.specs.BothFiles.{both-refuses}
@@ -58,7 +58,7 @@ module _ (s t : List ℕ) (r : Refusal) where
 
   -- The refusals of a claim, …
   pub claim-refused : read-claim s t ≡ refused r → Placed s t r
-  claim-refused = both-refused answer-reader claim-of sound-answer (le-refl longest-answer) (le-refl (most-rows * most-rows + 1))
+  claim-refused = both-refused answer-reader claim-for sound-answer (le-refl longest-answer) (le-refl (most-rows * most-rows + 1))
 
   -- … and of a problem and a basis.
   pub basis-refused : read-basis s t ≡ refused r → Placed s t r

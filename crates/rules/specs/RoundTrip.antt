@@ -21,7 +21,7 @@ use Rattle.rules.specs.Reader.{Place, got, Reader, next, _>>=_, give, nu
 use Rattle.rules.specs.Sizes.{largest-prime, most-rows, most-order, most-shift, most-length}
 use Rattle.rules.specs.Files.{PR-mark, OR-mark, SH-mark, FC-mark, PE-mark, CE-mark}
 use Rattle.rules.specs.Files.{PR, OR, SH, FC, PE, CE, problem-reader, coefficient-test, entries-reader, answer-reader, basis-reader, read-problem}
-use Rattle.rules.specs.Files.{claim-of, read-claim, read-basis, allowed-prime, one-to, residue, due, two's-complement, shift-in-size, shift-reader}
+use Rattle.rules.specs.Files.{claim-for, read-claim, read-basis, allowed-prime, one-to, residue, due, two's-complement, shift-in-size, shift-reader}
 use Rattle.rules.specs.Valid.{ValidProblem, ValidBasis, ValidAnswer, Valid}
 use Rattle.rules.specs.Matrices.{order, at}
 use Rattle.rules.specs.Writer.{bytes, write-each, write-all, unsigned, write-PR, write-OR, write-SH, write-FC, write-PE, write-CE, write-problem}
@@ -251,7 +251,7 @@ pub read-written-claim : (c : Claim) → Valid c → (q : Place) × (read-claim 
 read-written-claim c v =
     let (p, e) = read-written-problem (c .problem) (v .valid-problem) in
     let (q, f) = read-written-answer (c .problem) (v .valid-problem) (c .answer) (v .valid-answer) in
-    (q, both-read answer-reader claim-of (write-problem (c .problem)) (write-answer (c .answer)) e f)
+    (q, both-read answer-reader claim-for (write-problem (c .problem)) (write-answer (c .answer)) e f)
 
 -- WHAT IS READ IS WRITTEN
 

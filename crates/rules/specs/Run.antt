@@ -21,7 +21,8 @@ use Rattle.rules.specs.Conditions.{monomial-determinant, total, degree-s
 use Rattle.rules.specs.Conditions.{rank-below}
 use Rattle.rules.specs.Writer.{write-problem, write-answer}
 use Rattle.rules.specs.Verdict.{Numbers, numbers, verdict, judge-claim, by-product, by-rank}
-use Rattle.rules.specs.Evidence.{table, evidence-of, make-evidence}
+use Rattle.rules.specs.Table.{table}
+use Rattle.rules.specs.Evidence.{evidence-of, make-evidence}
 use Rattle.rules.specs.Part.{Part, rest-of-file, column-size, column-start, claim-part, pointed-at, part-bytes}
 use Rattle.rules.specs.Print.{digits-within, line-of}
 

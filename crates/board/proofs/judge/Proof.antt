@@ -3,8 +3,6 @@ use mathlib.Core.Path.{ap, _∙_}
 use Rattle.rules.specs.Verdict.{numbers, packed}
 use Rattle.board.proofs.judge.Statement.{statement}
 use Rattle.board.proofs.judge.Tie as tie
-use Rattle.board.proofs.judge_files.Reads as judge-files-reads
-use Rattle.verdict.proofs.pack.Reads as pack-reads
 
 judge-files-requires : tie.Need-judge-files-requires
 judge-files-requires c κs = search needs

@@ -3,8 +3,6 @@ use mathlib.Core.Path.{ap, _∙_}
 use Rattle.rules.specs.Verdict.{numbers, packed}
 use Rattle.board.proofs.make_evidence.Statement.{statement}
 use Rattle.board.proofs.make_evidence.Tie as tie
-use Rattle.board.proofs.evidence_files.Reads as evidence-files-reads
-use Rattle.verdict.proofs.pack.Reads as pack-reads
 
 evidence-files-requires : tie.Need-evidence-files-requires
 evidence-files-requires c κs = search needs

@@ -1,35 +1,33 @@
 use borrow.Author.Needs.{needs}
-use mathlib.Core.Path.{_≡_, sym, ap, subst, _∙_}
+use mathlib.Core.Path.{_≡_, sym, ap, _∙_}
 use mathlib.Core.Option.{none, some}
 use mir.Syntax.{w32}
 use mir.Val.{toZ, ofZ}
 use Prim.Native.Nat.{_-_}
 use native.Mathlib.Omega.{arith}
 use denote.Ref.{now}
-use Rattle.rules.specs.Verdict.{passed, natural}
+use Rattle.rules.specs.Claim.{Claim}
+use Rattle.rules.specs.Verdict.{not-reduced, passed, natural}
 use Rattle.verdict.specs.Meant.{meant}
+use Rattle.claim.specs.Claims.{claim-of}
 use Rattle.degrees.specs.Degree.{degree}
-use Rattle.conditions.specs.Held.{Arrays, Judged, arrays}
-use Rattle.conditions.specs.Applies.{applies}
-use Rattle.conditions.specs.Findings.{finding, Tried, none-tried, tried-fault, tried-one, all-tried}
+use Rattle.conditions.specs.Steps.{sized-of}
+use Rattle.conditions.specs.Findings.{finding, Tried, none-tried, tried-fault, tried-one, all-found, all-tried}
 use Rattle.conditions.proofs.conditions.Statement.{statement}
 use Rattle.conditions.proofs.conditions.Tie as tie
-use Rattle.conditions.proofs.applying.Reads as applying-reads
-use Rattle.degrees.proofs.degree_sum.Reads as degree-sum-reads
-use Rattle.degrees.proofs.not_negative.Reads as not-negative-reads
 
 abbrev Inv-loop : tie.InvT-loop
-Inv-loop orders shifts f lengths entries c p m n code₀ code = Tried p m n (arrays orders shifts f lengths entries c) code
+Inv-loop head f lengths entries c code₀ code = Tried (claim-of head f lengths entries c) code
 
 abbrev μ-loop : tie.MeasureT-loop
-μ-loop orders shifts f lengths entries c p m n code₀ code = 14 - code
+μ-loop head f lengths entries c code₀ code = 14 - code
 
--- The arrays of the claim.
-abbrev held : tie.Start Inv-loop μ-loop → Arrays
-held s = arrays (s .args .orders) (s .args .shifts) (now (s .args .f)) (now (s .args .lengths)) (now (s .args .entries)) (now (s .args .c))
+-- The claim that the arrays stand for.
+abbrev claimed : tie.Start Inv-loop μ-loop → Claim
+claimed s = claim-of (s .args .head) (now (s .args .f)) (now (s .args .lengths)) (now (s .args .entries)) (now (s .args .c))
 
 loop-holds : tie.Need-loop-holds Inv-loop μ-loop
-loop-holds c = none-tried (c .args .p) (c .args .m) (c .args .n) (held c)
+loop-holds c = none-tried (claimed c)
 
 applying-requires : tie.Need-applying-requires Inv-loop μ-loop
 applying-requires c κs = search needs
@@ -43,8 +41,7 @@ returns c =
     let l = c .before .before .before .before .before .loop in
     let found = c .before .before .before .applying in
     let v = c .before .v .given in
-    tried-fault (s .args .p) (s .args .m) (s .args .n) (held s) (l .code) (meant (v .0 .0)) (omega arith) (l .inv)
-    (subst (λ r. Judged (applies (l .code)) (s .args .p) (s .args .m) (s .args .n) (held s) (finding r)) (v .1) (found .ensures))
+    tried-fault (claimed s) (l .code) (meant (v .0 .0)) (omega arith) (l .inv) (sym (ap finding (v .1)) ∙ found .ensures)
 
 enum-told : tie.Need-enum-told Inv-loop μ-loop
 enum-told c = search needs
@@ -60,11 +57,10 @@ loop-again c =
     let s = c .before .before .before .before .before in
     let l = c .before .before .before .before .loop in
     let found = c .before .before .applying in
-    tried-one (s .args .p) (s .args .m) (s .args .n) (held s) (l .code) (omega arith) (l .inv)
-    (subst (λ r. Judged (applies (l .code)) (s .args .p) (s .args .m) (s .args .n) (held s) (finding r)) (c .enum-told .given .1) (found .ensures))
+    tried-one (claimed s) (l .code) (omega arith) (l .inv) (sym (ap finding (c .enum-told .given .1)) ∙ found .ensures)
 
 degree-sum-requires : tie.Need-degree-sum-requires Inv-loop μ-loop
-degree-sum-requires c κs = search needs
+degree-sum-requires c κs = let pre = c .before .before .pre in (sized-of (pre .sound-head) (pre .sound-basis), pre .sound-head .rows-most)
 
 enum-known-sum : tie.Need-enum-known-sum Inv-loop μ-loop
 enum-known-sum c = search needs
@@ -75,9 +71,11 @@ enum-told-2 c = search needs
 returns-2 : tie.Need-returns-2 Inv-loop μ-loop
 returns-2 c =
     let s = c .before .before .before .before .before in
+    let a = s .args in
     let l = c .before .before .before .before .loop in
-    all-tried (s .args .p) (s .args .m) (s .args .n) (held s) (l .code) none (omega arith) (l .inv)
-    (sym (ap degree (c .enum-told2 .given .1)) ∙ c .before .before .degree-sum .ensures)
+    all-tried (claimed s) (l .code) not-reduced (omega arith) (l .inv)
+    (all-found (a .head) (now (a .f)) (now (a .lengths)) (now (a .entries)) (now (a .c)) (s .pre) none
+    (sym (ap degree (c .enum-told2 .given .1)) ∙ c .before .before .degree-sum .ensures))
 
 not-negative-requires : tie.Need-not-negative-requires Inv-loop μ-loop
 not-negative-requires c κs = search needs
@@ -85,12 +83,14 @@ not-negative-requires c κs = search needs
 returns-3 : tie.Need-returns-3 Inv-loop μ-loop
 returns-3 c =
     let s = c .before .before .before .before .before .before .before in
+    let a = s .args in
     let l = c .before .before .before .before .before .before .loop in
     let sum = c .before .before .sum .given in
     let sum-back : toZ w32 (ofZ w32 (sum .0 .0)) ≡ sum .0 .0 = search needs in
-    λ os ss F P C h. ap passed (c .not-negative .ensures ∙ ap natural sum-back)
-    ∙ all-tried (s .args .p) (s .args .m) (s .args .n) (held s) (l .code) (some (sum .0 .0)) (omega arith) (l .inv)
-    (sym (ap degree (sum .1)) ∙ c .before .before .before .before .degree-sum .ensures) os ss F P C h
+    ap passed (c .not-negative .ensures ∙ ap natural sum-back)
+    ∙ all-tried (claimed s) (l .code) (passed (natural (sum .0 .0))) (omega arith) (l .inv)
+    (all-found (a .head) (now (a .f)) (now (a .lengths)) (now (a .entries)) (now (a .c)) (s .pre) (some (sum .0 .0))
+    (sym (ap degree (sum .1)) ∙ c .before .before .before .before .degree-sum .ensures))
 
 pub conditions-spec : {M : Type 1} → statement M
 conditions-spec =

@@ -13,13 +13,13 @@ use Rattle.degrees.proofs.row_degree.Tie as tie
 
 -- The largest of the terms from j on.
 abbrev Inv-loop : tie.InvT-loop
-Inv-loop lengths shifts m i j₀ most₀ j most = (j ≤ m) × (degree most ≡ largest-from (entry-term lengths shifts i) m j)
+Inv-loop head lengths i j₀ most₀ j most = (j ≤ head .m) × (degree most ≡ largest-from (entry-term lengths (head .shifts) i) (head .m) j)
 
 abbrev μ-loop : tie.MeasureT-loop
-μ-loop lengths shifts m i j₀ most₀ j most = j
+μ-loop head lengths i j₀ most₀ j most = j
 
 loop-holds : tie.Need-loop-holds Inv-loop μ-loop
-loop-holds c = (search needs, sym (largest-from-end (entry-term (c .args .lengths .now) (c .args .shifts) (c .args .i)) (c .args .m)))
+loop-holds c = (search needs, sym (largest-from-end (entry-term (c .args .lengths .now) (c .args .head .shifts) (c .args .i)) (c .args .head .m)))
 
 sub-j : tie.Need-sub-j Inv-loop μ-loop
 sub-j c = search needs
@@ -40,15 +40,15 @@ loop-again c =
       search needs,
       c .larger-degree .ensures
           ∙ ap₂ larger (c .before .term .ensures) (at .loop .inv .1)
-          ∙ largest-from-step (entry-term (s .args .lengths .now) (s .args .shifts) (s .args .i)) (s .args .m) (at .loop .j) (omega arith) (omega arith),
+          ∙ largest-from-step (entry-term (s .args .lengths .now) (s .args .head .shifts) (s .args .i)) (s .args .head .m) (at .loop .j) (omega arith) (omega arith),
     )
 
 returns : tie.Need-returns Inv-loop μ-loop
 unfolding row-degree-of
 returns c =
     let s = c .before .before in
-    let f : ℕ → Option ℤ = entry-term (s .args .lengths .now) (s .args .shifts) (s .args .i) in
-    c .before .loop .inv .1 ∙ ap (largest-from f (s .args .m)) (omega arith) ∙ from-zero largest f (s .args .m)
+    let f : ℕ → Option ℤ = entry-term (s .args .lengths .now) (s .args .head .shifts) (s .args .i) in
+    c .before .loop .inv .1 ∙ ap (largest-from f (s .args .head .m)) (omega arith) ∙ from-zero largest f (s .args .head .m)
 
 pub row-degree-spec : {M : Type 1} → statement M
 row-degree-spec =

@@ -25,15 +25,15 @@ mul-shifted-degree-2 : tie.Need-mul-shifted-degree-2
 unfolding most-rows
 mul-shifted-degree-2 c = search needs
 
-array-copy-out-shifted-degree : tie.Need-array-copy-out-shifted-degree
+element-copy-out-shifted-degree-2 : tie.Need-element-copy-out-shifted-degree-2
 unfolding most-rows
-array-copy-out-shifted-degree c = search needs
+element-copy-out-shifted-degree-2 c = search needs
 
 shifted-degree-requires : tie.Need-shifted-degree-requires
 shifted-degree-requires c κs =
     let s = c .before .before .before in (
       s .pre .0 .length-most (c .before .before .square-place .result),
-      subst (λ z. natAbs z ≤ most-shift) (sym (shift-back (s .args .lengths .now) (s .args .t2) (s .pre .0) (s .args .j))) (s .pre .0 .shift-most (s .args .j)),
+      subst (λ z. natAbs z ≤ most-shift) (sym (shift-back (s .args .lengths .now) (s .args .t1 .shifts) (s .pre .0) (s .args .j))) (s .pre .0 .shift-most (s .args .j)),
     )
 
 returns : tie.Need-returns
@@ -41,7 +41,7 @@ returns c =
     let s = c .before .before .before .before in
     c .shifted-degree .ensures
     ∙ ap₂ shifted-degree-of (ap (λ k. getD (s .args .lengths .now) k 0) (c .before .before .before .square-place .ensures))
-    (shift-back (s .args .lengths .now) (s .args .t2) (s .pre .0) (s .args .j))
+    (shift-back (s .args .lengths .now) (s .args .t1 .shifts) (s .pre .0) (s .args .j))
 
 pub term-spec : {M : Type 1} → statement M
 term-spec =
@@ -51,6 +51,6 @@ term-spec =
     mul-shifted-degree
     element-copy-out-shifted-degree
     mul-shifted-degree-2
-    array-copy-out-shifted-degree
+    element-copy-out-shifted-degree-2
     shifted-degree-requires
     returns)

@@ -1,41 +1,49 @@
 use borrow.Author.Needs.{needs}
 use mathlib.Core.Path.{_≡_, refl, subst, _∙_}
 use mathlib.Core.List.{List}
-use Prim.Native.Nat.{ℕ, _+_, _-_, _*_, _≤_}
+use Prim.Native.Nat.{ℕ, _-_, _*_, _+_, _≤_}
 use native.Mathlib.Omega.{arith}
+use Rattle.rules.specs.Claim.{Problem}
 use Rattle.rules.specs.Writer.{bytes}
 use Rattle.rules.specs.Files.{CE-mark}
 use Rattle.writer.specs.Appended.{Appended}
+use Rattle.claim.specs.Claims.{problem-of, basis-of}
 use Rattle.evidence.specs.Record.{RowsPut, rows-fit, rows-start, rows-more, record-done}
 use Rattle.evidence.proofs.put_evidence.Statement.{statement}
 use Rattle.evidence.proofs.put_evidence.Tie as tie
-use Rattle.evidence.proofs.put_row.Reads as put-row-reads
-use Rattle.writer.proofs.put_text.Reads as put-text-reads
 
 abbrev Inv-loop : tie.InvT-loop
-Inv-loop out₀ entries lengths f orders p m n end₀ i₀ out end i = RowsPut p entries f orders m n end₀ out₀ out end i
+Inv-loop out₀ head f lengths entries m end₀ i₀ out end i = RowsPut (problem-of head f) (basis-of (head .m) lengths entries) end₀ out₀ out end i
 
 abbrev μ-loop : tie.MeasureT-loop
-μ-loop out₀ entries lengths f orders p m n end₀ i₀ out end i = m - i
+μ-loop out₀ head f lengths entries m end₀ i₀ out end i = m - i
+
+-- The problem and the basis that the arrays stand for.
+abbrev problem : tie.Start Inv-loop μ-loop → Problem
+problem s = problem-of (s .args .head) (s .args .f .now)
+
+abbrev basis : tie.Start Inv-loop μ-loop → List (List (List ℕ))
+basis s = basis-of (s .args .head .m) (s .args .lengths .now) (s .args .entries .now)
 
 slice-aggregate-put-text : tie.Need-slice-aggregate-put-text Inv-loop μ-loop
 slice-aggregate-put-text c = search needs
 
 put-text-requires : tie.Need-put-text-requires Inv-loop μ-loop
-put-text-requires c κs = omega (arith, c .before .before .before .pre .1 .1 .1)
+put-text-requires c κs = omega (arith, c .before .before .before .pre .1)
 
 loop-holds : tie.Need-loop-holds Inv-loop μ-loop
 loop-holds c =
-    let a = c .before .before .before .before .before .before .args in
-    rows-start (a .p) (a .entries .now) (a .f .now) (a .orders) (a .m) (a .n) (c .before .before .put-text .result) (c .before .before .put-text .last .0)
+    let s = c .before .before .before .before .before .before in
+    rows-start (problem s) (basis s) (c .before .before .put-text .result) (c .before .before .put-text .last .0)
 
 put-row-requires : tie.Need-put-row-requires Inv-loop μ-loop
 put-row-requires c κs =
     let start = c .before .before .before .before .before .before .before .before .before in
+    let head = start .args .head in
     let l = c .before .before .loop in
     let mark = c .before .before .before .before .before .put-text in
-    let rows : 4 * l .i * start .args .n + 4 * start .args .n ≤ 4 * start .args .m * start .args .n = rows-fit (l .i) (start .args .m) (start .args .n) (omega arith) in
-    (start .pre .0, (start .pre .1 .0, ((start .pre .1 .1 .0 .0, (start .pre .1 .1 .0 .1, omega (arith, start .pre .1 .1 .0 .0))), omega (arith, rows, start .pre .1 .1 .1, l .inv .place, l .inv .put .same-length, mark .ensures .ends, mark .ensures .same-length))))
+    let rows : 4 * l .i * head .n + 4 * head .n ≤ 4 * head .m * head .n = rows-fit (l .i) (head .m) (head .n) (omega arith) in
+    (start .pre .0, (omega arith, omega (arith, rows, start .pre .1, l .inv .place, l .inv .put .same-length, mark .ensures .ends, mark .ensures .same-length)))
 
 add-i : tie.Need-add-i Inv-loop μ-loop
 add-i c = search needs
@@ -45,9 +53,11 @@ loop-less c = search needs
 
 loop-again : tie.Need-loop-again Inv-loop μ-loop
 loop-again c =
-    let a = c .before .before .before .before .before .before .before .before .before .before .before .before .args in
+    let s = c .before .before .before .before .before .before .before .before .before .before .before .before in
     let l = c .before .before .before .before .before .loop in
-    rows-more (a .p) (a .entries .now) (a .f .now) (a .orders) (a .m) (a .n) (c .before .before .before .before .before .before .before .before .put-text .result) (c .before .before .before .before .before .before .before .before .put-text .last .0) (l .out) (c .before .before .put-row .last .0) (l .end) (c .before .before .put-row .result) (l .i) (omega arith) (l .inv) (c .before .before .put-row .ensures)
+    let mark = c .before .before .before .before .before .before .before .before .put-text in
+    let row = c .before .before .put-row in
+    rows-more (problem s) (basis s) (mark .result) (mark .last .0) (l .out) (row .last .0) (l .end) (row .result) (l .i) (omega arith) (l .inv) (row .ensures)
 
 same-length : tie.Need-same-length Inv-loop μ-loop
 same-length c = c .before .loop .inv .put .same-length ∙ c .before .before .before .before .put-text .ensures .same-length
@@ -59,10 +69,10 @@ marked {before} {after} {end = end} put same = subst (Appended before after 0 en
 returns : tie.Need-returns Inv-loop μ-loop
 unfolding bytes
 returns c =
-    let a = c .before .before .before .before .before .before .before .before .args in
+    let s = c .before .before .before .before .before .before .before .before in
     let l = c .before .loop in
     let mark = c .before .before .before .before .put-text in
-    record-done (a .p) (a .entries .now) (a .f .now) (a .orders) (a .m) (a .n) (mark .result) (mark .last .0) (a .out .now) (l .out) (l .end) (l .i) (marked (mark .ensures) refl) (omega arith) (l .inv)
+    record-done (problem s) (basis s) (mark .result) (mark .last .0) (s .args .out .now) (l .out) (l .end) (l .i) (marked (mark .ensures) refl) (omega arith) (l .inv)
 
 pub put-evidence-spec : {M : Type 1} → statement M
 put-evidence-spec =

@@ -15,11 +15,11 @@ use Rattle.part.proofs.column_bytes.Reads as column-bytes-reads
 
 -- The start of column k, and that it is small.
 abbrev Inv-loop : tie.InvT-loop
-Inv-loop m n j orders start₀ k₀ start k =
-    (k ≤ j) × (start ≡ head-bytes m n + sum-below k (λ i. column-bytes m (getD orders i 0))) × (start ≤ head-bytes most-rows most-rows + longest-FC * k)
+Inv-loop j head start₀ k₀ start k =
+    (k ≤ j) × (start ≡ head-bytes (head .m) (head .n) + sum-below k (λ i. column-bytes (head .m) (getD (head .orders) i 0))) × (start ≤ head-bytes most-rows most-rows + longest-FC * k)
 
 abbrev μ-loop : tie.MeasureT-loop
-μ-loop m n j orders start₀ k₀ start k = j - k
+μ-loop j head start₀ k₀ start k = j - k
 
 add-start : tie.Need-add-start Inv-loop μ-loop
 unfolding most-rows
@@ -49,19 +49,19 @@ mul-column-bytes : tie.Need-mul-column-bytes Inv-loop μ-loop
 unfolding most-rows
 mul-column-bytes c = search needs
 
-array-read-column-bytes : tie.Need-array-read-column-bytes Inv-loop μ-loop
+element-copy-out-column-bytes : tie.Need-element-copy-out-column-bytes Inv-loop μ-loop
 unfolding most-rows
-array-read-column-bytes c = search needs
+element-copy-out-column-bytes c = search needs
 
 column-bytes-requires : tie.Need-column-bytes-requires Inv-loop μ-loop
-column-bytes-requires c κs = let s = c .before .before in (s .pre .0 .0, s .pre .1 (c .before .loop .k))
+column-bytes-requires c κs = let s = c .before .before .before in (s .pre .0 .0, s .pre .1 (c .before .before .loop .k))
 
 -- A column's record is no longer than the longest.
 few : (c : tie.After-column-bytes Inv-loop μ-loop) → c .column-bytes .result ≤ longest-FC
 unfolding longest-FC
 few c =
-    let s = c .before .before .before in
-    omega (arith, c .column-bytes .ensures, rectangle-most (s .pre .0 .0) (s .pre .1 (c .before .before .loop .k)))
+    let s = c .before .before .before .before in
+    omega (arith, c .column-bytes .ensures, rectangle-most (s .pre .0 .0) (s .pre .1 (c .before .before .before .loop .k)))
 
 add-start-5 : tie.Need-add-start-5 Inv-loop μ-loop
 unfolding most-rows most-order longest-FC
@@ -76,11 +76,11 @@ loop-less c = search needs
 
 loop-again : tie.Need-loop-again Inv-loop μ-loop
 loop-again c =
-    let s = c .before .before .before in
-    let k = c .before .before .loop .k in (
+    let s = c .before .before .before .before in
+    let k = c .before .before .before .loop .k in (
       search needs,
-      ap₂ _+_ (c .before .before .loop .inv .1) (c .column-bytes .ensures)
-          ∙ omega (arith, sum-below-last k (λ i. column-bytes (s .args .m) (getD (s .args .t1) i 0))),
+      ap₂ _+_ (c .before .before .before .loop .inv .1) (c .column-bytes .ensures)
+          ∙ omega (arith, sum-below-last k (λ i. column-bytes (s .args .t1 .m) (getD (s .args .t1 .orders) i 0))),
       omega (arith, few c),
     )
 
@@ -88,7 +88,7 @@ returns : tie.Need-returns Inv-loop μ-loop
 returns c =
     let s = c .before .before in
     c .before .loop .inv .1
-    ∙ ap (λ (k : ℕ). head-bytes (s .args .m) (s .args .n) + sum-below k (λ i. column-bytes (s .args .m) (getD (s .args .t1) i 0))) (omega arith)
+    ∙ ap (λ (k : ℕ). head-bytes (s .args .t1 .m) (s .args .t1 .n) + sum-below k (λ i. column-bytes (s .args .t1 .m) (getD (s .args .t1 .orders) i 0))) (omega arith)
 
 pub column-start-spec : {M : Type 1} → statement M
 column-start-spec =
@@ -103,7 +103,7 @@ column-start-spec =
     add-start-4
     loop-holds
     mul-column-bytes
-    array-read-column-bytes
+    element-copy-out-column-bytes
     column-bytes-requires
     add-start-5
     add-k

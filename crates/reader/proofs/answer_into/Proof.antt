@@ -8,8 +8,8 @@ use borrow.Author.Needs.{needs}
 use Rattle.rules.specs.Reader.{Place, refused, got, front}
 use Rattle.place.specs.Places.{place, refusal, going}
 use Rattle.layout.specs.Flat.{square, entry-coefficients}
-use Rattle.reader.specs.declared.Answer.{Answer}
-use Rattle.reader.specs.Values.{answer-parts, answer-value, answer-of, answer-from, answer-given, answer-of-refused}
+use Rattle.reader.specs.declared.ReadAnswer.{ReadAnswer}
+use Rattle.reader.specs.Values.{answer-parts, answer-value, read-answer, answer-from, answer-given, read-answer-refused, with-entries}
 use Rattle.reader.specs.Records.{refused-into}
 use Rattle.reader.specs.Arrays.{filled-length}
 use Rattle.reader.specs.Flat.{answer-into, filled}
@@ -41,19 +41,19 @@ all-read : (c : tie.After-read-all)
     going {A = List ℕ × List ℕ × List ℕ} (c .read-all .result)
     (c .read-all .last .1 .1 .1 .1 .1 .1 .0, c .read-all .last .1 .1 .1 .1 .1 .1 .1 .0, c .read-all .last .1 .1 .1 .1 .1 .1 .1 .1 .0)
     ≡ into (answer-into (args .lengths .now, args .entries .now, args .c .now))
-    (answer-parts (args .p) (args .m) (args .n) (args .with-evidence) (args .t .now) (front 1))
+    (answer-parts (args .head .p) (args .head .m) (args .head .n) (args .with-evidence) (args .t .now) (front 1))
 all-read c =
     let c₄ = c .before .before .before .before in
     let args = c₄ .before .before .args in
     c .read-all .ensures
     ∙ ap
-    (λ (p : Place). into (answer-into (args .lengths .now, args .entries .now, args .c .now)) (answer-parts (args .p) (args .m) (args .n) (args .with-evidence) (args .t .now) p))
+    (λ (p : Place). into (answer-into (args .lengths .now, args .entries .now, args .c .now)) (answer-parts (args .head .p) (args .head .m) (args .head .n) (args .with-evidence) (args .t .now) p))
     (c₄ .front .ensures)
 
-answer-off : (c : tie.After-known-told)
+read-answerf : (c : tie.After-known-told)
     → let args = c .before .before .before .before .before .before .before .before .before .args in
-    answer-of (args .p) (args .m) (args .n) (args .with-evidence) (args .t .now) ≡ refused (refusal (c .before .x .given .0 .0))
-answer-off c =
+    read-answer (args .head .p) (args .head .m) (args .head .n) (args .with-evidence) (args .t .now) ≡ refused (refusal (c .before .x .given .0 .0))
+read-answerf c =
     answer-given _ _ _ _ _
     ∙ sym (refused-into _ (into-refused _ _ (going-off _ (all-read (c .before .before .before)) (c .before .x .given .1))))
 
@@ -70,7 +70,7 @@ narrow-requires : tie.Need-narrow-requires
 narrow-requires c κs =
     let c₃ = c .before .before .before in
     let pre = c₃ .before .before .before .before .before .before .before .before .before .pre in
-    answer-of-refused _ _ _ _ _ (pre .0 .0) (pre .0 .1) (answer-off c₃)
+    read-answer-refused _ _ _ _ _ (pre .0 .0) (pre .0 .1) (read-answerf c₃)
 
 enum-told : tie.Need-enum-told
 enum-told c = search needs
@@ -80,13 +80,13 @@ parts-read : (c : tie.After-enum-told)
     → let c₂ = c .before .before in
     let args = c₂ .before .before .before .before .before .before .args in
     (a : List (List (List ℕ)) × List (List ℕ))
-    × (answer-parts (args .p) (args .m) (args .n) (args .with-evidence) (args .t .now) (front 1) ≡ got a (place (c .enum-told .given .0 .0)))
+    × (answer-parts (args .head .p) (args .head .m) (args .head .n) (args .with-evidence) (args .t .now) (front 1) ≡ got a (place (c .enum-told .given .0 .0)))
     × (_≡_ {A = List ℕ × List ℕ × List ℕ} (answer-into (args .lengths .now, args .entries .now, args .c .now) a) (c₂ .read-all .last .1 .1 .1 .1 .1 .1 .0, c₂ .read-all .last .1 .1 .1 .1 .1 .1 .1 .0, c₂ .read-all .last .1 .1 .1 .1 .1 .1 .1 .1 .0))
 parts-read c = into-got _ _ (going-on _ (all-read (c .before .before)) (c .enum-told .given .1))
 
 answer-on : (c : tie.After-enum-told)
     → let args = c .before .before .before .before .before .before .before .before .args in
-    answer-of (args .p) (args .m) (args .n) (args .with-evidence) (args .t .now) ≡ got (answer-from (parts-read c .0)) (place (c .enum-told .given .0 .0))
+    read-answer (args .head .p) (args .head .m) (args .head .n) (args .with-evidence) (args .t .now) ≡ got (answer-from (parts-read c .0)) (place (c .enum-told .given .0 .0))
 unfolding into
 answer-on c = answer-given _ _ _ _ _ ∙ ap (into answer-from) (parts-read c .1)
 
@@ -106,15 +106,15 @@ returns : tie.Need-returns
 unfolding answer-value
 returns c =
     let c₃ = c .before .before .before in
-    _∙_ {A = Answer}
-    (λ i. record { ok = false; refusal = c .narrow .ensures i; lengths = c₃ .no-lengths .ensures i; entries = c .before .before .no-entries .ensures i; c = c .before .no-evidence .ensures i })
-    (ap answer-value (sym (answer-off (c₃ .before))))
+    _∙_ {A = ReadAnswer}
+    (λ i. with-entries (record { ok = false; refusal = c .narrow .ensures i }) (c₃ .no-lengths .ensures i) (c .before .before .no-entries .ensures i) (c .before .no-evidence .ensures i))
+    (ap answer-value (sym (read-answerf (c₃ .before))))
 
 returns-2 : tie.Need-returns-2
 unfolding answer-value
 returns-2 c =
-    _∙_ {A = Answer}
-    (λ i. record { ok = true; refusal = c .accepted .ensures i; lengths = stored (c .before) i .0; entries = stored (c .before) i .1; c = stored (c .before) i .2 })
+    _∙_ {A = ReadAnswer}
+    (λ i. with-entries (record { ok = true; refusal = c .accepted .ensures i }) (stored (c .before) i .0) (stored (c .before) i .1) (stored (c .before) i .2))
     (ap answer-value (sym (answer-on (c .before))))
 
 pub answer-into-spec : {M : Type 1} → statement M

@@ -13,9 +13,9 @@ use Rattle.rules.specs.ReaderLaws.{Forward}
 use Rattle.rules.specs.Soundness.{InSize, sound-PR}
 use Rattle.place.specs.Places.{place, refusal}
 use Rattle.layout.specs.Flat.{column-coefficients}
-use Rattle.reader.specs.declared.Problem.{Problem}
+use Rattle.reader.specs.declared.ReadProblem.{ReadProblem}
 use Rattle.reader.specs.Head.{headed}
-use Rattle.reader.specs.Values.{body-reader, problem-value, problem-of, head-refused, head-given, with-arrays}
+use Rattle.reader.specs.Values.{body-reader, problem-value, problem-from, head-refused, head-given, with-arrays}
 use Rattle.reader.specs.Records.{refused-into}
 use Rattle.reader.specs.Arrays.{filled-length}
 use Rattle.reader.specs.Extent.{problem-refused}
@@ -113,13 +113,13 @@ body-read c = into-got _ _ (going-on _ (c .before .before .read-body .ensures) (
 
 problem-read : (c : tie.After-enum-told) → let c₇ = c .before .before .before .before .before .before .before in
     let start = c₇ .before .before .before .before .before in
-    read-problem (start .args .s .now) ≡ got (problem-of (c₇ .h .given .0 .0 .p) (c₇ .h .given .0 .0 .m) (c₇ .h .given .0 .0 .n) (body-read c .0)) (place (c .enum-told .given .0 .0))
+    read-problem (start .args .s .now) ≡ got (problem-from (c₇ .h .given .0 .0 .p) (c₇ .h .given .0 .0 .m) (c₇ .h .given .0 .0 .n) (body-read c .0)) (place (c .enum-told .given .0 .0))
 unfolding into
 problem-read c =
     let c₆ = c .before .before .before .before .before .before in
     let c₇ = c₆ .before in
     head-given (c₇ .before .before .before .before .before .args .s .now) _ _ _ (head-on c₆)
-    ∙ ap (into (problem-of (c₇ .h .given .0 .0 .p) (c₇ .h .given .0 .0 .m) (c₇ .h .given .0 .0 .n))) (body-read c .1)
+    ∙ ap (into (problem-from (c₇ .h .given .0 .0 .p) (c₇ .h .given .0 .0 .m) (c₇ .h .given .0 .0 .n))) (body-read c .1)
 
 stored : (c : tie.After-enum-told)
     → let c₂ = c .before .before in
@@ -137,20 +137,20 @@ returns : tie.Need-returns
 unfolding problem-value
 returns c =
     let pre = c .before .before .before .before .before .before .before .pre in
-    _∙_ {A = Problem} (λ i. with-arrays (c .off .ensures i) (pre .0 i) (pre .1 .0 i) (pre .1 .1 i)) (ap problem-value (sym (head-off (c .before))))
+    _∙_ {A = ReadProblem} (λ i. with-arrays (c .off .ensures i) (pre .0 i) (pre .1 .0 i) (pre .1 .1 i)) (ap problem-value (sym (head-off (c .before))))
 
 returns-2 : tie.Need-returns-2
 unfolding problem-value
 returns-2 c =
     let c₃ = c .before .before .before in
-    _∙_ {A = Problem}
+    _∙_ {A = ReadProblem}
     (λ i. with-arrays (c .off2 .ensures i) (c₃ .no-orders .ensures i) (c .before .before .no-shifts .ensures i) (c .before .no-coefficients .ensures i))
     (ap problem-value (sym (body-off (c₃ .before))))
 
 returns-3 : tie.Need-returns-3
 unfolding problem-value
 returns-3 c =
-    _∙_ {A = Problem}
+    _∙_ {A = ReadProblem}
     (λ i. with-arrays (c .on .ensures i) (stored (c .before) i .0) (stored (c .before) i .1) (stored (c .before) i .2))
     (ap problem-value (sym (problem-read (c .before))))
 

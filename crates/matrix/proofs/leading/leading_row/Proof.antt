@@ -8,7 +8,7 @@ use mir.Syntax.{w32}
 use mir.Val.{toZ, ofZ}
 use Rattle.rules.specs.Conditions.{row-degree-of}
 use Rattle.rules.specs.Sizes.{most-rows}
-use Rattle.rules.specs.Evidence.{table}
+use Rattle.rules.specs.Table.{table}
 use Rattle.layout.specs.Flat.{width, length-at, shift-at, cell}
 use Rattle.degrees.specs.Degree.{degree as degree-meant}
 use Rattle.degrees.proofs.Signed.{back}
@@ -19,10 +19,10 @@ use Rattle.matrix.proofs.leading.leading_row.Statement.{statement}
 use Rattle.matrix.proofs.leading.leading_row.Tie as tie
 
 abbrev Inv-loop : tie.InvT-loop
-Inv-loop entries lengths m i shifts row₀ degree j₀ row j = (j ≤ m) × RowFilled j (leading-number entries lengths shifts m i) row
+Inv-loop lengths entries i head row₀ degree j₀ row j = (j ≤ head .m) × RowFilled j (leading-number entries lengths (head .shifts) (head .m) i) row
 
 abbrev μ-loop : tie.MeasureT-loop
-μ-loop entries lengths m i shifts row₀ degree j₀ row j = m - j
+μ-loop lengths entries i head row₀ degree j₀ row j = head .m - j
 
 row-degree-requires : tie.Need-row-degree-requires Inv-loop μ-loop
 row-degree-requires c κs = search needs
@@ -37,8 +37,8 @@ returns : tie.Need-returns Inv-loop μ-loop
 unfolding most-rows table zero-row
 returns c =
     let s = c .before .before .before in
-    sym (row-of-zeros (s .args .m) (leading-number (s .args .entries .now) (s .args .lengths .now) (s .args .t3) (s .args .m) (s .args .i)) (λ j.
-    leading-none (s .args .entries .now) (s .args .lengths .now) (s .args .t3) (s .args .m) (s .args .i) j
+    sym (row-of-zeros (s .args .t1 .m) (leading-number (s .args .entries .now) (s .args .lengths .now) (s .args .t1 .shifts) (s .args .t1 .m) (s .args .i)) (λ j.
+    leading-none (s .args .entries .now) (s .args .lengths .now) (s .args .t1 .shifts) (s .args .t1 .m) (s .args .i) j
     (sym (c .before .before .row-degree .ensures) ∙ ap degree-meant (c .enum-told .given .1))))
 
 loop-holds : tie.Need-loop-holds Inv-loop μ-loop
@@ -49,9 +49,9 @@ mul-minus : tie.Need-mul-minus Inv-loop μ-loop
 unfolding most-rows
 mul-minus c = search needs
 
-array-copy-out-minus : tie.Need-array-copy-out-minus Inv-loop μ-loop
+element-copy-out-minus : tie.Need-element-copy-out-minus Inv-loop μ-loop
 unfolding most-rows
-array-copy-out-minus c = search needs
+element-copy-out-minus c = search needs
 
 -- What the function was called with, and the row's degree as it is read back.
 abbrev start : tie.After-minus-arg Inv-loop μ-loop → tie.Start Inv-loop μ-loop
@@ -61,7 +61,7 @@ abbrev row : tie.After-minus-arg Inv-loop μ-loop → ℤ
 row c = toZ w32 (ofZ w32 (c .before .before .before .before .degree .given .0 .0))
 
 row-is : (c : tie.After-minus-arg Inv-loop μ-loop)
-    → row-degree-of (start c .args .m) (length-at (start c .args .lengths .now) (start c .args .i)) (shift-at (start c .args .t3)) ≡ some (row c)
+    → row-degree-of (start c .args .t1 .m) (length-at (start c .args .lengths .now) (start c .args .i)) (shift-at (start c .args .t1 .shifts)) ≡ some (row c)
 row-is c =
     let known = c .before .before .before .before .degree .given in
     let row-back : row c ≡ known .0 .0 = search needs in
@@ -70,7 +70,7 @@ row-is c =
 minus-requires : tie.Need-minus-requires Inv-loop μ-loop
 minus-requires c κs =
     let a = start c .args in
-    difference-small (a .lengths .now) (a .t3) (start c .pre .0) (a .m) (a .i) (c .before .before .loop .j) (row c) (row-is c)
+    difference-small (a .lengths .now) (a .t1 .shifts) (start c .pre .0) (a .t1 .m) (a .i) (c .before .before .loop .j) (row c) (row-is c)
 
 entry-at-requires : tie.Need-entry-at-requires Inv-loop μ-loop
 unfolding most-rows
@@ -94,8 +94,8 @@ loop-less c = search needs
 -- The number that is stored in a turn.
 stored : (c : tie.After-entry-at Inv-loop μ-loop)
     → c .entry-at .result
-    ≡ leading-number (start (c .before .before) .args .entries .now) (start (c .before .before) .args .lengths .now) (start (c .before .before) .args .t3)
-    (start (c .before .before) .args .m) (start (c .before .before) .args .i) (c .before .before .before .before .loop .j)
+    ≡ leading-number (start (c .before .before) .args .entries .now) (start (c .before .before) .args .lengths .now) (start (c .before .before) .args .t1 .shifts)
+    (start (c .before .before) .args .t1 .m) (start (c .before .before) .args .i) (c .before .before .before .before .loop .j)
 stored c =
     let called = c .before .before in
     let a = start called .args in
@@ -104,8 +104,8 @@ stored c =
     ∙ ap (λ z. at-power z (cell (a .entries .now) (a .i) j))
     (back (record { sfits = c .before .minus .ok })
     ∙ c .before .minus .ensures
-    ∙ ap (λ z. row called -ℤ z) (shift-back (a .lengths .now) (a .t3) (start called .pre .0) j))
-    ∙ sym (leading-some (a .entries .now) (a .lengths .now) (a .t3) (a .m) (a .i) j (row called) (row-is called))
+    ∙ ap (λ z. row called -ℤ z) (shift-back (a .lengths .now) (a .t1 .shifts) (start called .pre .0) j))
+    ∙ sym (leading-some (a .entries .now) (a .lengths .now) (a .t1 .shifts) (a .t1 .m) (a .i) j (row called) (row-is called))
 
 loop-again : tie.Need-loop-again Inv-loop μ-loop
 unfolding most-rows
@@ -116,7 +116,7 @@ loop-again c =
 returns-2 : tie.Need-returns-2 Inv-loop μ-loop
 returns-2 c =
     let s = c .before .before .before .before .before .before in
-    filled-row (leading-number (s .args .entries .now) (s .args .lengths .now) (s .args .t3) (s .args .m) (s .args .i)) (c .before .loop .inv .1) (omega arith)
+    filled-row (leading-number (s .args .entries .now) (s .args .lengths .now) (s .args .t1 .shifts) (s .args .t1 .m) (s .args .i)) (c .before .loop .inv .1) (omega arith)
 
 pub leading-row-spec : {M : Type 1} → statement M
 leading-row-spec =
@@ -130,7 +130,7 @@ leading-row-spec =
     returns
     loop-holds
     mul-minus
-    array-copy-out-minus
+    element-copy-out-minus
     minus-requires
     entry-at-requires
     mul-row

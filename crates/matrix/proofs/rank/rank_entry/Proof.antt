@@ -34,16 +34,16 @@ element-copy-out-result-2 c = search needs
 returns : tie.Need-returns
 unfolding most-length
 returns c =
-    let s = c .before .before .before in
+    let s = c .before .before .before .before in
     ap (λ k. getD (s .args .entries .now) k 0) (c .before .entry-place .ensures)
-    ∙ sym (rank-number-left (s .args .entries .now) (s .args .c .now) (s .args .m) (s .args .i) (s .args .j) (c .before .before .if1 .taken)
+    ∙ sym (rank-number-left (s .args .entries .now) (s .args .c .now) (s .args .head .m) (s .args .i) (s .args .j) (c .before .before .if1 .taken)
     ∙ cell-at (s .args .entries .now) (s .args .i) (s .args .j) 0 (omega arith))
 
 returns-2 : tie.Need-returns-2
 returns-2 c =
-    let s = c .before .before .before in
+    let s = c .before .before .before .before .before in
     ap (λ k. getD (s .args .c .now) k 0) (c .before .square-place .ensures)
-    ∙ sym (rank-number-right (s .args .entries .now) (s .args .c .now) (s .args .m) (s .args .i) (s .args .j) (c .before .before .if1 .left))
+    ∙ sym (rank-number-right (s .args .entries .now) (s .args .c .now) (s .args .head .m) (s .args .i) (s .args .j) (c .before .before .before .if1 .left))
 
 pub rank-entry-spec : {M : Type 1} → statement M
 rank-entry-spec =

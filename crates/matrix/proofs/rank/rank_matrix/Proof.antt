@@ -4,17 +4,17 @@ use mathlib.Core.List.{[]}
 use native.Mathlib.Omega.{arith}
 use Prim.Native.Nat.{_+_, _-_, _≤_}
 use Rattle.rules.specs.Sizes.{most-rows}
-use Rattle.rules.specs.Evidence.{table}
+use Rattle.rules.specs.Table.{table}
 use Rattle.matrix.specs.Fill.{RowsFilled, zero-row, filled-none, filled-more, filled-array}
 use Rattle.matrix.specs.Rank.{rank-number}
 use Rattle.matrix.proofs.rank.rank_matrix.Statement.{statement}
 use Rattle.matrix.proofs.rank.rank_matrix.Tie as tie
 
 abbrev Inv-loop : tie.InvT-loop
-Inv-loop entries c m n rows₀ i₀ rows i = (i ≤ m) × RowsFilled i (m + n) (rank-number entries c m) rows
+Inv-loop head entries c rows₀ i₀ rows i = (i ≤ head .m) × RowsFilled i (head .m + head .n) (rank-number entries c (head .m)) rows
 
 abbrev μ-loop : tie.MeasureT-loop
-μ-loop entries c m n rows₀ i₀ rows i = m - i
+μ-loop head entries c rows₀ i₀ rows i = head .m - i
 
 loop-holds : tie.Need-loop-holds Inv-loop μ-loop
 unfolding most-rows table zero-row
@@ -41,13 +41,13 @@ loop-less c = search needs
 loop-again : tie.Need-loop-again Inv-loop μ-loop
 unfolding most-rows
 loop-again c =
-    let at = c .before .before in
+    let at = c .before .before .before in
     (search needs, filled-more [] zero-row most-rows _ (at .loop .i) (at .loop .rows) (c .rank-row .result) (at .loop .inv .1) (omega arith) (c .rank-row .ensures))
 
 returns : tie.Need-returns Inv-loop μ-loop
 returns c =
-    let s = c .before .before in
-    filled-array (s .args .m + s .args .n) (rank-number (s .args .entries .now) (s .args .c .now) (s .args .m)) (c .before .loop .inv .1) (omega arith)
+    let s = c .before .before .before in
+    filled-array (s .args .head .m + s .args .head .n) (rank-number (s .args .entries .now) (s .args .c .now) (s .args .head .m)) (c .before .before .loop .inv .1) (omega arith)
 
 pub rank-matrix-spec : {M : Type 1} → statement M
 rank-matrix-spec =

@@ -3,7 +3,7 @@ use mathlib.Core.Path.{refl}
 use native.Mathlib.Omega.{arith}
 use Prim.Native.Nat.{_-_, _≤_}
 use Rattle.rules.specs.Sizes.{most-rows}
-use Rattle.rules.specs.Evidence.{table}
+use Rattle.rules.specs.Table.{table}
 use Rattle.layout.specs.Flat.{width}
 use Rattle.matrix.specs.Fill.{RowFilled, filled-none, filled-more, filled-row}
 use Rattle.matrix.specs.Rank.{rank-number}
@@ -11,11 +11,11 @@ use Rattle.matrix.proofs.rank.rank_row.Statement.{statement}
 use Rattle.matrix.proofs.rank.rank_row.Tie as tie
 
 abbrev Inv-loop : tie.InvT-loop
-Inv-loop entries c m n i width row₀ j₀ row j =
-    (j ≤ width) × RowFilled j (rank-number entries c m i) row
+Inv-loop head entries c i width row₀ j₀ row j =
+    (j ≤ width) × RowFilled j (rank-number entries c (head .m) i) row
 
 abbrev μ-loop : tie.MeasureT-loop
-μ-loop entries c m n i width row₀ j₀ row j = width - j
+μ-loop head entries c i width row₀ j₀ row j = width - j
 
 add-width : tie.Need-add-width Inv-loop μ-loop
 unfolding most-rows
@@ -52,8 +52,8 @@ loop-again c =
 
 returns : tie.Need-returns Inv-loop μ-loop
 returns c =
-    let s = c .before .before in
-    filled-row (rank-number (s .args .entries .now) (s .args .c .now) (s .args .m) (s .args .i)) (c .before .loop .inv .1) (omega arith)
+    let s = c .before .before .before in
+    filled-row (rank-number (s .args .entries .now) (s .args .c .now) (s .args .head .m) (s .args .i)) (c .before .loop .inv .1) (omega arith)
 
 pub rank-row-spec : {M : Type 1} → statement M
 rank-row-spec =

@@ -11,10 +11,10 @@ use Rattle.product.proofs.coefficient.add_products.Statement.{statement
 use Rattle.product.proofs.coefficient.add_products.Tie as tie
 
 abbrev Inv-loop : tie.InvT-loop
-Inv-loop entries f x y count high₀ low₀ t₀ high low t = (t ≤ count) × Grown t high₀ low₀ (dot entries f x y t) high low
+Inv-loop f entries y x count high₀ low₀ t₀ high low t = (t ≤ count) × Grown t high₀ low₀ (dot entries f x y t) high low
 
 abbrev μ-loop : tie.MeasureT-loop
-μ-loop entries f x y count high₀ low₀ t₀ high low t = count - t
+μ-loop f entries y x count high₀ low₀ t₀ high low t = count - t
 
 loop-holds : tie.Need-loop-holds Inv-loop μ-loop
 unfolding dot sum-below

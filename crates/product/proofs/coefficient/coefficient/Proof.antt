@@ -12,8 +12,8 @@ entry-total-requires : tie.Need-entry-total-requires
 entry-total-requires c κs =
     let h = c .pre .0 in (
       (
-        below-small (c .args .p) (c .args .entries .now) (h .modulus-most) (h .entry-below),
-        (below-small (c .args .p) (c .args .f .now) (h .modulus-most) (h .column-below), h .padded),
+        below-small (c .args .head .p) (c .args .entries .now) (h .modulus-most) (h .entry-below),
+        (below-small (c .args .head .p) (c .args .f .now) (h .modulus-most) (h .column-below), h .padded),
       ),
       c .pre .1 .0,
     )
@@ -28,9 +28,9 @@ returns : tie.Need-returns
 returns c =
     let s = c .before .before in
     c .residue .ensures
-    ∙ ap (λ n. n % s .args .p) (c .before .entry-total .ensures .total)
-    ∙ sym (red-value (s .args .p) (s .pre .0 .modulus-positive) (product-number (s .args .entries .now) (s .args .f .now) (s .args .m) (s .args .i) (s .args .j) (s .args .k)))
-    ∙ ap (λ x. x .0) (product-residue (s .args .p) (s .args .entries .now) (s .args .f .now) (s .args .m) (s .args .i) (s .args .j) (s .args .k))
+    ∙ ap (λ n. n % s .args .head .p) (c .before .entry-total .ensures .total)
+    ∙ sym (red-value (s .args .head .p) (s .pre .0 .modulus-positive) (product-number (s .args .entries .now) (s .args .f .now) (s .args .head .m) (s .args .i) (s .args .j) (s .args .k)))
+    ∙ ap (λ x. x .0) (product-residue (s .args .head .p) (s .args .entries .now) (s .args .f .now) (s .args .head .m) (s .args .i) (s .args .j) (s .args .k))
 
 pub coefficient-spec : {M : Type 1} → statement M
 coefficient-spec = tie.close (tie.spec entry-total-requires residue-requires returns)

@@ -12,11 +12,11 @@ use Rattle.product.proofs.coefficient.entry_total.Statement.{statement}
 use Rattle.product.proofs.coefficient.entry_total.Tie as tie
 
 abbrev Inv-loop : tie.InvT-loop
-Inv-loop entries lengths f m i j k total₀ l₀ total l =
+Inv-loop f lengths entries i j k m total₀ l₀ total l =
     (l ≤ m) × Summed (l * most-length) (sum-below l (pair-number entries f i j k)) (total .high) (total .low)
 
 abbrev μ-loop : tie.MeasureT-loop
-μ-loop entries lengths f m i j k total₀ l₀ total l = m - l
+μ-loop f lengths entries i j k m total₀ l₀ total l = m - l
 
 loop-holds : tie.Need-loop-holds Inv-loop μ-loop
 unfolding sum-below

@@ -12,28 +12,28 @@ use Rattle.product.proofs.fault.low_fault.Statement.{statement}
 use Rattle.product.proofs.fault.low_fault.Tie as tie
 
 abbrev Inv-loop : tie.InvT-loop
-Inv-loop entries lengths f p m i j order fold k₀ k = (k ≤ order) × Fails k (low-test p entries f m i j)
+Inv-loop f lengths entries i j head order fold k₀ k = (k ≤ order) × Fails k (low-test head f entries i j)
 
 abbrev μ-loop : tie.MeasureT-loop
-μ-loop entries lengths f p m i j order fold k₀ k = order - k
+μ-loop f lengths entries i j head order fold k₀ k = order - k
 
 mul-order : tie.Need-mul-order Inv-loop μ-loop
 unfolding most-rows
 mul-order c = search needs
 
-array-read-order : tie.Need-array-read-order Inv-loop μ-loop
+element-copy-out-order : tie.Need-element-copy-out-order Inv-loop μ-loop
 unfolding most-rows
-array-read-order c = search needs
+element-copy-out-order c = search needs
 
 cut-mod-requires : tie.Need-cut-mod-requires Inv-loop μ-loop
-cut-mod-requires c κs = c .pre .0 .modulus-positive
+cut-mod-requires c κs = c .before .pre .0 .modulus-positive
 
 loop-holds : tie.Need-loop-holds Inv-loop μ-loop
 loop-holds c = (search needs, below-none _)
 
 coefficient-requires : tie.Need-coefficient-requires Inv-loop μ-loop
 coefficient-requires c κs =
-    let s = c .before .before .before in
+    let s = c .before .before .before .before in
     let rest = s .pre .1 .1 in (
       s .pre .0,
       ((rest .0, (rest .1 .0, (rest .1 .1, le-trans (le-of-lt (c .loop-test .taken)) (s .pre .1 .0 (s .args .j))))), c .before .before .cut-mod .ensures),
@@ -42,16 +42,16 @@ coefficient-requires c κs =
 returns : tie.Need-returns Inv-loop μ-loop
 unfolding flat-low-fault
 returns c =
-    let s = c .before .before .before .before .before in
+    let s = c .before .before .before .before .before .before in
     let k = c .before .before .before .loop .k in
-    sym (some-below-hit (getD (s .args .t4) (s .args .j) 0) (low-test (s .args .p) (s .args .entries .now) (s .args .f .now) (s .args .m) (s .args .i) (s .args .j)) k
+    sym (some-below-hit (getD (s .args .t1 .orders) (s .args .j) 0) (low-test (s .args .t1) (s .args .f .now) (s .args .entries .now) (s .args .i) (s .args .j)) k
     (c .before .before .loop-test .taken)
-    (low-test-other (s .args .p) (s .args .entries .now) (s .args .f .now) (s .args .m) (s .args .i) (s .args .j) k (c .before .coefficient .result) (c .before .coefficient .ensures) (c .if1 .taken)))
+    (low-test-other (s .args .t1) (s .args .f .now) (s .args .entries .now) (s .args .i) (s .args .j) k (c .before .coefficient .result) (c .before .coefficient .ensures) (c .if1 .taken)))
 
 add-k : tie.Need-add-k Inv-loop μ-loop
 unfolding most-order
 add-k c =
-    let s = c .before .before .before .before .before in
+    let s = c .before .before .before .before .before .before in
     omega (arith, s .pre .1 .0 (s .args .j))
 
 loop-less : tie.Need-loop-less Inv-loop μ-loop
@@ -59,18 +59,18 @@ loop-less c = search needs
 
 loop-again : tie.Need-loop-again Inv-loop μ-loop
 loop-again c =
-    let s = c .before .before .before .before .before in (
+    let s = c .before .before .before .before .before .before in (
       search needs,
       below-more _ _ (c .before .before .before .loop .inv .1)
-          (low-test-zero (s .args .p) (s .args .entries .now) (s .args .f .now) (s .args .m) (s .args .i) (s .args .j) (c .before .before .before .loop .k)
+          (low-test-zero (s .args .t1) (s .args .f .now) (s .args .entries .now) (s .args .i) (s .args .j) (c .before .before .before .loop .k)
           (c .before .coefficient .result) (c .before .coefficient .ensures) (c .if1 .left)),
     )
 
 returns-2 : tie.Need-returns-2 Inv-loop μ-loop
 unfolding flat-low-fault
 returns-2 c =
-    let s = c .before .before .before in
-    sym (some-below-fails (getD (s .args .t4) (s .args .j) 0) (low-test (s .args .p) (s .args .entries .now) (s .args .f .now) (s .args .m) (s .args .i) (s .args .j))
+    let s = c .before .before .before .before in
+    sym (some-below-fails (getD (s .args .t1 .orders) (s .args .j) 0) (low-test (s .args .t1) (s .args .f .now) (s .args .entries .now) (s .args .i) (s .args .j))
     (λ k b. c .before .loop .inv .1 k (lt-of-lt-of-le b (c .loop-test .left))))
 
 pub low-fault-spec : {M : Type 1} → statement M
@@ -80,7 +80,7 @@ low-fault-spec =
     Inv-loop
     μ-loop
     mul-order
-    array-read-order
+    element-copy-out-order
     cut-mod-requires
     loop-holds
     coefficient-requires

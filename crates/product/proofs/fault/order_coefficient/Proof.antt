@@ -10,19 +10,19 @@ mul-coefficient : tie.Need-mul-coefficient
 unfolding most-rows
 mul-coefficient c = search needs
 
-array-read-coefficient : tie.Need-array-read-coefficient
+element-copy-out-coefficient : tie.Need-element-copy-out-coefficient
 unfolding most-rows
-array-read-coefficient c = search needs
+element-copy-out-coefficient c = search needs
 
 coefficient-requires : tie.Need-coefficient-requires
 coefficient-requires c κs =
-    let s = c .before in
+    let s = c .before .before in
     let rest = s .pre .1 .1 in
-    (s .pre .0, ((rest .0, (rest .1 .0, (rest .1 .1, s .pre .1 .0 _))), c .cut-mod .ensures))
+    (s .pre .0, ((rest .0, (rest .1 .0, (rest .1 .1, s .pre .1 .0 _))), c .before .cut-mod .ensures))
 
 returns : tie.Need-returns
 returns c = search needs
 
 pub order-coefficient-spec : {M : Type 1} → statement M
 order-coefficient-spec =
-    tie.close (tie.spec cut-mod-requires mul-coefficient array-read-coefficient coefficient-requires returns)
+    tie.close (tie.spec cut-mod-requires mul-coefficient element-copy-out-coefficient coefficient-requires returns)

@@ -1,0 +1,152 @@
+use borrow.Author.Needs.{needs}
+use borrow.Author.Tests.{not-true, not-false}
+use mathlib.Core.Bool.{true}
+use mathlib.Core.Logic.{⊎-elim}
+use mathlib.Core.Path.{_≡_, sym, ap}
+use Prim.Native.Nat.{_≤_, zero-le}
+use native.Mathlib.Omega.{arith}
+use denote.Ref.{now}
+use lib.ListN.{length, length-take}
+use Rattle.rules.specs.Sizes.{most-rows}
+use Rattle.rules.specs.Evidence.{Made}
+use Rattle.rules.specs.WriterLaws.{rectangle-most}
+use Rattle.claim.specs.Sound.{SoundHead}
+use Rattle.reader.specs.Readings.{problem-head, problem-columns}
+use Rattle.writer.specs.Appended.{appended-within}
+use Rattle.making.specs.Steps.{evidence-off, evidence-answer-off, both-basis, room-lacks, evidence-put}
+use Rattle.making.proofs.evidence_files.Statement.{statement}
+use Rattle.making.proofs.evidence_files.Tie as tie
+
+read-problem-requires : tie.Need-read-problem-requires
+read-problem-requires c κs = search needs
+
+returns : tie.Need-returns
+returns c =
+    let a = c .before .before .before .before .before .before .args in
+    let b = c .before .before .read-problem in
+    let e = evidence-off (now (a .problem)) (now (a .answer)) (now (a .buffer)) (b .ensures) (not-true (b .result .ok) (c .before .if1 .taken)) in
+    (sym (ap (λ (x : Made). x .answer) e), sym (ap (λ (x : Made). x .buffer) e))
+
+read-answer-requires : tie.Need-read-answer-requires
+read-answer-requires c κs =
+    let x = c .before .before .read-problem in
+    let a = c .before .before .before .before .before .before .args in
+    let sound = problem-head (now (a .problem)) (x .ensures) (not-false (x .result .ok) (c .before .if1 .left)) in
+    (sound .rows-most, sound .columns-most)
+
+returns-2 : tie.Need-returns-2
+returns-2 c =
+    let a = c .before .before .before .before .before .before .before .before .before .args in
+    let x = c .before .before .before .before .before .read-problem in
+    let y = c .before .before .read-answer in
+    let e = evidence-answer-off (now (a .problem)) (now (a .answer)) (now (a .buffer)) (x .ensures) (not-false (x .result .ok) (c .before .before .before .before .if1 .left)) (y .ensures)
+    (not-true (y .result .ok) (c .before .if2 .taken)) in
+    (sym (ap (λ (x : Made). x .answer) e), sym (ap (λ (x : Made). x .buffer) e))
+
+-- Where neither file is refused, both are read.
+problem-on : (c : tie.Else2) → c .before .before .before .before .read-problem .result .ok ≡ true
+problem-on c = not-false (c .before .before .before .before .read-problem .result .ok) (c .before .before .before .if1 .left)
+
+answer-on : (c : tie.Else2) → c .before .read-answer .result .ok ≡ true
+answer-on c = not-false (c .before .read-answer .result .ok) (c .if2 .left)
+
+slice-aggregate-put-evidence : tie.Need-slice-aggregate-put-evidence
+slice-aggregate-put-evidence c = search needs
+
+put-evidence-requires : tie.Need-put-evidence-requires
+unfolding most-rows
+put-evidence-requires c κs =
+    let d = c .before .before .before .before .before .before in
+    let a = d .before .before .before .before .before .before .before .before .args in
+    let x = d .before .before .before .before .read-problem in
+    let y = d .before .read-answer in
+    let sound : SoundHead (x .result .problem .head) = problem-head (now (a .problem)) (x .ensures) (problem-on d) in (
+      (
+        sound,
+        (
+          problem-columns (now (a .problem)) (x .ensures) (problem-on d),
+          both-basis (now (a .problem)) (now (a .answer)) (now (a .buffer)) (x .ensures) (problem-on d) (y .ensures) (answer-on d),
+        ),
+      ),
+      omega (arith, rectangle-most (sound .rows-most) (sound .columns-most)),
+    )
+
+-- The record lies within its array.
+within : (c : tie.After-put-evidence) → c .put-evidence .result ≤ length (c .put-evidence .last .0)
+within c = appended-within _ (c .put-evidence .last .0) 0 (c .put-evidence .result) _ zero-le (c .put-evidence .ensures)
+
+-- What is put of it lies within the array, and within the buffer.
+fits : (c : tie.Joined3) → let start = c .before .before .before .before .before .before .before .before .before .before .before .before .before .before .before .before .before in
+    (c .if3 .count ≤ length (c .before .before .put-evidence .last .0)) × (c .if3 .count ≤ length (now (start .args .buffer)))
+fits c =
+    let made = within (c .before .before) in
+    ⊎-elim (λ w. (omega arith, omega arith)) (λ w. (omega arith, omega arith)) (c .if3 .came)
+
+array-share-prefix-record : tie.Need-array-share-prefix-record
+array-share-prefix-record c = omega (arith, fits (c .before) .0)
+
+slice-aggregate-put-text : tie.Need-slice-aggregate-put-text
+slice-aggregate-put-text c = simp length-take (omega (arith, fits (c .before .before) .0))
+
+put-text-requires : tie.Need-put-text-requires
+put-text-requires c κs = simp length-take (omega (arith, fits (c .before .before) .0, fits (c .before .before) .1))
+
+cast-at : tie.Need-cast-at
+cast-at c = omega (arith, within (c .before .before .before .before .before .before .before))
+
+same-length : tie.Need-same-length
+same-length c = search needs
+
+returns-3 : tie.Need-returns-3
+returns-3 c =
+    let put = c .before .before .before .before .before .before .before .before .put-evidence in
+    let front = c .before .before .before .put-text in
+    let d = c .before .before .before .before .before .before .before .before .before .before .before .before .before .before .before in
+    let a = d .before .before .before .before .before .before .before .before .args in
+    let x = d .before .before .before .before .read-problem in
+    let y = d .before .read-answer in
+    ⊎-elim
+    (λ w.
+    let e = room-lacks (now (a .problem)) (now (a .answer)) (now (a .buffer)) (x .ensures) (problem-on d) (y .ensures) (answer-on d) _ (put .last .0) (put .result) (put .ensures) (front .last .0) (c .before .before .before .before .before .before .if3 .count) (front .result) (front .ensures)
+    (omega arith) (omega arith) in
+    (sym (ap (λ (x : Made). x .answer) e), sym (ap (λ (x : Made). x .buffer) e)))
+    (λ w. absurd (omega arith))
+    (c .before .before .before .before .before .before .if3 .came)
+
+same-length-2 : tie.Need-same-length-2
+same-length-2 c = search needs
+
+returns-4 : tie.Need-returns-4
+returns-4 c =
+    let put = c .before .before .before .before .before .before .before .before .put-evidence in
+    let front = c .before .before .before .put-text in
+    let d = c .before .before .before .before .before .before .before .before .before .before .before .before .before .before .before in
+    let a = d .before .before .before .before .before .before .before .before .args in
+    let x = d .before .before .before .before .read-problem in
+    let y = d .before .read-answer in
+    ⊎-elim
+    (λ w. absurd (omega arith))
+    (λ w.
+    let e = evidence-put (now (a .problem)) (now (a .answer)) (now (a .buffer)) (x .ensures) (problem-on d) (y .ensures) (answer-on d) _ (put .last .0) (put .result) (put .ensures) (front .last .0) (c .before .before .before .before .before .before .if3 .count) (front .result) (front .ensures)
+    (omega arith) (omega arith) in
+    (sym (ap (λ (x : Made). x .answer) e), sym (ap (λ (x : Made). x .buffer) e)))
+    (c .before .before .before .before .before .before .if3 .came)
+
+pub evidence-files-spec : {M : Type 1} → statement M
+evidence-files-spec =
+    tie.close
+    (tie.spec
+    read-problem-requires
+    returns
+    read-answer-requires
+    returns-2
+    slice-aggregate-put-evidence
+    put-evidence-requires
+    array-share-prefix-record
+    slice-aggregate-put-text
+    put-text-requires
+    cast-at
+    same-length
+    returns-3
+    same-length-2
+    returns-4)
