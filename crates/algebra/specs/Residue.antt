@@ -153,6 +153,13 @@ module _ (p : ℕ) where
   pub red-zero-iff : 0 < p → (a : ℕ) → (red p a ≡ 𝟘) ↔ (a % p ≡ 0)
   red-zero-iff h a = (λ e. red-eq h a 0 .0 e ∙ zero-mod p, λ e. red-eq h a 0 .1 (e ∙ sym (zero-mod p)))
 
+  -- The product of two residues is 1 where that of the numbers leaves 1.
+  pub red-mul-one-iff : 2 ≤ p → (a b : ℕ) → (red p a ⊗ red p b ≡ 𝟙) ↔ (a * b % p ≡ 1)
+  red-mul-one-iff two a b = (
+    λ e. red-eq (le-of-lt two) (a * b) 1 .0 (red-mul a b ∙ e) ∙ mod-eq-of-lt two,
+    λ e. sym (red-mul a b) ∙ red-eq (le-of-lt two) (a * b) 1 .1 (e ∙ sym (mod-eq-of-lt two)),
+  )
+
   -- It can be told whether two residues are equal.
   unfoldable pub K-discrete : Discrete C
   unfolding Fin-discrete

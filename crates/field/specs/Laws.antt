@@ -5,20 +5,18 @@
 -- and what their proofs share:
 --   product-fits             a product of two numbers below 2 ^ 32 is below 2 ^ 64
 --   mod-once                 a remainder by one subtraction
---   inverse-is               what inverts a modulo p is its inverse
-use mathlib.Core.Path.{_≡_, sym, ap, _∙_}
-use mathlib.Core.Logic.{_≢_}
+use mathlib.Core.Path.{_≡_, ap, _∙_}
 use Prim.Native.Nat.{ℕ, _+_, _-_, _*_, _%_, _^_, _≤_, _<_}
-use native.Mathlib.Nat.{le-of-lt, lt-of-le-of-lt, mod-lt, mod-eq-of-lt, mod-eq-sub-mod, mul-le-mul}
+use native.Mathlib.Nat.{lt-of-le-of-lt, mod-lt, mod-eq-of-lt, mod-eq-sub-mod, mul-le-mul}
 use native.Mathlib.Omega.{arith}
 use lib.Dec.{lit<}
 use mir.Syntax.{w64}
 use mir.Val.{Fits}
-use Rattle.algebra.specs.Ring.{CommRing, zero-mul}
+use Rattle.algebra.specs.Ring.{CommRing}
 use Rattle.algebra.specs.Prime.{Prime}
-use Rattle.algebra.specs.Residue.{K, red, red-mod, red-add, red-mul, red-neg, red-eq, inverse-unique, K-inverse, K-inverts, K-nontrivial}
+use Rattle.algebra.specs.Residue.{K, red, red-mod, red-add, red-mul, red-neg, K-inverse}
 use Rattle.rules.specs.Inverse.{inverse}
-use Rattle.rules.specs.InverseLaws.{red-inverse, inverse-below}
+use Rattle.rules.specs.InverseLaws.{red-inverse}
 
 -- A product of two numbers of 32 bits fits 64 bits.
 pub product-fits : (a b : ℕ) → a < 2 ^ 32 → b < 2 ^ 32 → Fits w64 (a * b)
@@ -57,13 +55,3 @@ module _ (p : ℕ) where
   -- … and an inverse that of the inverse.
   pub red-of-inverse : Prime p → (a r : ℕ) → r ≡ inverse p a → red p r ≡ K-inverse p (red p a)
   red-of-inverse prime a r e = ap (red p) e ∙ red-inverse p prime a
-
-  -- The number below p whose residue inverts that of a is the inverse of a.
-  pub inverse-is : Prime p → (a c : ℕ) → c < p → red p a ⊗ red p c ≡ 𝟙 → c ≡ inverse p a
-  inverse-is prime a c below h = sym (mod-eq-of-lt below) ∙ red-eq p (le-of-lt (prime .two-le)) c (inverse p a) .0 same ∙ mod-eq-of-lt (inverse-below p prime a)
-    where
-      not-zero : red p a ≢ 𝟘
-      not-zero z = K-nontrivial p (prime .two-le) (sym h ∙ ap (λ x. x ⊗ red p c) z ∙ zero-mul (K p) (red p c))
-
-      same : red p c ≡ red p (inverse p a)
-      same = inverse-unique (K p) (red p a) (red p c) (K-inverse p (red p a)) h (K-inverts p prime (red p a) not-zero) ∙ sym (red-inverse p prime a)

@@ -2,7 +2,7 @@
 ghost use mathlib.Core.Path.{_≡_};
 ghost use Prim.Native.Nat.{_+_, _-_, _*_, _%_, _<_};
 ghost use Rattle.algebra.specs.Prime.{Prime};
-ghost use Rattle.rules.specs.Inverse.{inverse};
+ghost use Rattle.rules.specs.Inverse.{inverse, InverseOf};
 ghost use Rattle.field.specs.Cut.{cut};
 
 // Where a sum of products is cut in two, so that it fits 64 bits: 2^40.
@@ -57,6 +57,25 @@ pub fn mul_mod(a: u32, b: u32, p: u32) -> u32
     (product % p as u64) as u32
 }
 
+// p: a prime. a: a number below p, other than 0.
+// The number below p whose product with a is 1 modulo p, by remainders.
+fn inverse_by_remainders(a: u32, p: u32) -> u32
+    requires { ⌜ Prime p ⌝ }
+    requires { ⌜ 0 < a ⌝ }
+    requires { ⌜ a < p ⌝ }
+    ensures { λ r. ⌜ InverseOf p a r ⌝ }
+{
+    let mut r = a;
+    let mut c: u32 = 1;
+    while 1 < r {
+        let quotient = p / r;
+        let rest = p % r;
+        c = neg_mod(mul_mod(quotient, c, p), p);
+        r = rest;
+    }
+    c
+}
+
 // p: a prime. a: a number below p.
 // The number below p whose product with a is 1 modulo p; of 0, it is 0.
 pub fn inverse_mod(a: u32, p: u32) -> u32
@@ -67,13 +86,5 @@ pub fn inverse_mod(a: u32, p: u32) -> u32
     if a == 0 {
         return 0;
     }
-    let mut r = a;
-    let mut c: u32 = 1;
-    while 1 < r {
-        let quotient = p / r;
-        let rest = p % r;
-        c = neg_mod(mul_mod(quotient, c, p), p);
-        r = rest;
-    }
-    c
+    inverse_by_remainders(a, p)
 }

@@ -1,6 +1,7 @@
 -- The inverse in K of document 01 is that of the field: "of 0 it is set to 0; of any other a it is the b with a × b = 1".
 --   inverse-below, inverse-mul, inverse-zero     it is below p; a × b = 1; that of 0
 --   red-inverse              it is the inverse of the field
+--   inverse-is               it is the only number that inverts a
 use mathlib.Core.Path.{_≡_, refl, sym, ap, subst, _∙_}
 use mathlib.Core.Logic.{_≢_, _⊎_, inl, inr}
 use mathlib.Core.Option.{Option, none, some}
@@ -10,9 +11,9 @@ use native.Mathlib.Decide.{ℕ-discrete}
 use lib.Dec.{eqb}
 use Rattle.algebra.specs.Ring as Ring
 use Rattle.algebra.specs.Prime.{Prime}
-use Rattle.algebra.specs.Residue.{K, red, red-mul, red-onto, red-eq, red-zero-iff, residue-below, inverse-unique, K-inverse, K-inverts, K-inverse-zero}
+use Rattle.algebra.specs.Residue.{K, red, red-mul, red-onto, red-eq, red-zero-iff, red-mul-one-iff, residue-below, inverse-unique, K-inverse, K-inverts, K-inverse-zero, K-nontrivial}
 use Rattle.rules.specs.Conditions.{first-below}
-use Rattle.rules.specs.Inverse.{inverse}
+use Rattle.rules.specs.Inverse.{inverse, InverseOf}
 use Rattle.rules.specs.BoolLaws.{eqb-iff, false-iff}
 use Rattle.rules.specs.SearchLaws.{first-below-none, first-below-some}
 
@@ -24,9 +25,8 @@ module _ (p : ℕ) (prime : Prime p) where
   found : (a : ℕ) → a % p ≢ 0 → a * K-inverse p (red p a) .0 % p ≡ 1
   found a ne =
       let x = K-inverse p (red p a) in
-      red-eq p positive (a * x .0) 1 .0 (
-      red-mul p a (x .0) ∙ ap (λ y. K p ._⊗_ (red p a) y) (red-onto p x) ∙ K-inverts p prime (red p a) (λ e. ne (red-zero-iff p positive a .0 e)))
-      ∙ mod-eq-of-lt (prime .two-le)
+      red-mul-one-iff p (prime .two-le) a (x .0) .0
+      (ap (λ y. K p ._⊗_ (red p a) y) (red-onto p x) ∙ K-inverts p prime (red p a) (λ e. ne (red-zero-iff p positive a .0 e)))
 
   -- The search finds nothing, or an inverse below p.
   search : (a : ℕ) → ((inverse p a ≡ 0) × ((b : ℕ) → b < p → a * b % p ≢ 1)) ⊎ ((inverse p a < p) × (a * inverse p a % p ≡ 1))
@@ -72,6 +72,19 @@ module _ (p : ℕ) (prime : Prime p) where
     | yes z ↦ ap (red p) (inverse-zero a z) ∙ sym (ap (K-inverse p) (red-zero-iff p positive a .1 z) ∙ K-inverse-zero p)
     | no ne ↦
         inverse-unique (K p) (red p a) (red p (inverse p a)) (K-inverse p (red p a))
-        (sym (red-mul p a (inverse p a)) ∙ red-eq p positive (a * inverse p a) 1 .1 (inverse-mul a ne ∙ sym (mod-eq-of-lt (prime .two-le))))
+        (red-mul-one-iff p (prime .two-le) a (inverse p a) .1 (inverse-mul a ne))
         (K-inverts p prime (red p a) (λ e. ne (red-zero-iff p positive a .0 e)))
   ]
+
+  -- A number below p whose product with a is 1 is the inverse.
+  pub inverse-is : (a b : ℕ) → InverseOf p a b → b ≡ inverse p a
+  inverse-is a b h = sym (mod-eq-of-lt (h .below)) ∙ red-eq p positive b (inverse p a) .0 same ∙ mod-eq-of-lt (inverse-below a)
+    where
+      inverts : K p ._⊗_ (red p a) (red p b) ≡ K p .𝟙
+      inverts = red-mul-one-iff p (prime .two-le) a b .1 (h .one)
+
+      not-zero : red p a ≢ K p .𝟘
+      not-zero z = K-nontrivial p (prime .two-le) (sym inverts ∙ ap (λ x. K p ._⊗_ x (red p b)) z ∙ Ring.zero-mul (K p) (red p b))
+
+      same : red p b ≡ red p (inverse p a)
+      same = inverse-unique (K p) (red p a) (red p b) (K-inverse p (red p a)) inverts (K-inverts p prime (red p a) not-zero) ∙ sym (red-inverse a)

@@ -1,77 +1,21 @@
--- `field::inverse_mod` meets its contract. The loop's invariant: r is between 0 and p, and a · c = r modulo p, so that c is the inverse of a
--- once r is 1. The measure is r, which falls to p % r and does not come to 0, since p is prime. Assumes nothing.
-use mathlib.Core.Path.{_≡_, sym, ap, _∙_}
-use Prim.Native.Nat.{ℕ, _-_, _*_, _/_, _%_, _≤_, _<_}
-use native.Mathlib.Nat.{mod-lt, mod-eq-of-lt, le-of-lt}
+-- `field::inverse_mod` meets its contract: the inverse of 0 is 0, and what inverts any other number is its inverse. Assumes nothing.
+use mathlib.Core.Path.{sym, _∙_}
+use native.Mathlib.Nat.{mod-eq-of-lt}
 use native.Mathlib.Omega.{arith}
-use borrow.Author.Needs.{needs}
-use Rattle.algebra.specs.Prime.{Prime, prime-mod-pos}
-use Rattle.algebra.specs.Residue.{K, red, inverse-step}
-use Rattle.rules.specs.Inverse.{inverse}
-use Rattle.rules.specs.InverseLaws.{inverse-zero}
-use Rattle.field.specs.Laws.{remainder-below, red-of-mul, red-of-neg, inverse-is}
+use Rattle.rules.specs.InverseLaws.{inverse-zero, inverse-is}
 use Rattle.field.proofs.inverse_mod.Statement.{statement}
 use Rattle.field.proofs.inverse_mod.Tie as tie
 
-record Reached (a p r c : ℕ) : Type 0 where
-  positive : 0 < r
-  below : r < p
-  small : c < p
-  product : K p ._⊗_ (red p a) (red p c) ≡ red p r
-
-started : (a p : ℕ) → 0 < a → a < p → Reached a p a 1
-started a p lo hi = record { positive = lo; below = hi; small = omega arith; product = K p .mul-one (red p a) }
-
--- One turn, with t and n what `mul_mod` and `neg_mod` give.
-turned : {a p r c : ℕ} (t n : ℕ) → Prime p → 1 < r → Reached a p r c → t ≡ p / r * c % p → n ≡ (p - t) % p → Reached a p (p % r) n
-turned {a} {p} {r} {c} t n prime more h et en = record {
-  positive = prime-mod-pos prime r more (h .below);
-  below = omega (arith, mod-lt p (h .positive));
-  small = remainder-below p (p - t) n (omega arith) en;
-  product = ap (λ x. K p ._⊗_ (red p a) x) (red-of-neg p t n (le-of-lt (remainder-below p (p / r * c) t (omega arith) et)) en ∙ ap (K p .⊖_) (red-of-mul p (p / r) c t et)) ∙ inverse-step p r (red p a) (red p c) (h .product);
-}
-
-ended : {a p r c : ℕ} → Prime p → r ≤ 1 → Reached a p r c → c ≡ inverse p a
-ended {a} {p} {r} {c} prime last h =
-    let one : r ≡ 1 = omega arith in
-    inverse-is p prime a c (h .small) (h .product ∙ ap (red p) one)
-
-abbrev Inv-loop : tie.InvT-loop
-Inv-loop a p r₀ c₀ r c = Reached a p r c
-
-abbrev μ-loop : tie.MeasureT-loop
-μ-loop a p r₀ c₀ r c = r
-
-returns : tie.Need-returns Inv-loop μ-loop
+returns : tie.Need-returns
 returns c =
-    let x = c .before .args in
-    sym (inverse-zero (x .p) (c .before .pre .0) (x .a) (mod-eq-of-lt (c .before .pre .1) ∙ c .if1 .taken))
+    let s = c .before in
+    sym (inverse-zero (s .args .p) (s .pre .0) (s .args .a) (mod-eq-of-lt (s .pre .1) ∙ c .if1 .taken))
 
-loop-holds : tie.Need-loop-holds Inv-loop μ-loop
-loop-holds c = started _ _ (omega arith) (c .before .pre .1)
+inverse-by-remainders-requires : tie.Need-inverse-by-remainders-requires
+inverse-by-remainders-requires c κs = (c .before .pre .0, (omega arith, c .before .pre .1))
 
-div-quotient : tie.Need-div-quotient Inv-loop μ-loop
-div-quotient c = search needs
-
-rem-rest : tie.Need-rem-rest Inv-loop μ-loop
-rem-rest c = search needs
-
-mul-mod-requires : tie.Need-mul-mod-requires Inv-loop μ-loop
-mul-mod-requires c κs = search needs
-
-neg-mod-requires : tie.Need-neg-mod-requires Inv-loop μ-loop
-neg-mod-requires c κs = remainder-below _ _ _ (omega arith) (c .mul-mod .ensures)
-
-loop-less : tie.Need-loop-less Inv-loop μ-loop
-loop-less c = mod-lt _ (c .before .before .before .loop .inv .positive)
-
-loop-again : tie.Need-loop-again Inv-loop μ-loop
-loop-again c =
-    let s = c .before .before in
-    turned _ _ (s .before .before .before .pre .0) (omega arith) (s .before .loop .inv) (c .before .mul-mod .ensures) (c .neg-mod .ensures)
-
-returns-2 : tie.Need-returns-2 Inv-loop μ-loop
-returns-2 c = ended (c .before .before .before .pre .0) (omega arith) (c .before .loop .inv)
+returns-2 : tie.Need-returns-2
+returns-2 c = inverse-is _ (c .before .before .pre .0) _ _ (c .inverse-by-remainders .ensures)
 
 pub inverse-mod-spec : {M : Type 1} → statement M
-inverse-mod-spec = tie.close (tie.spec Inv-loop μ-loop returns loop-holds div-quotient rem-rest mul-mod-requires neg-mod-requires loop-less loop-again returns-2)
+inverse-mod-spec = tie.close (tie.spec returns inverse-by-remainders-requires returns-2)
