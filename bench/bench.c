@@ -2,31 +2,32 @@
  * Time of one call: the board against the plain C version and against FLINT, on the same claims in one process.
  *
  * First every judge is held to document 01's worked cases and to the others on every claim; a difference is printed and the exit status
- * is 1. Then each round times each judge once, one after the other, so that a slow moment of the machine meets all of them; the times
- * are medians over the rounds, and a ratio is the median of the rounds' ratios. Time is the process's own, so that waiting for
- * a processor does not count.
+ * is 1. Then each round times each judge once, one after the other, so that a slow moment of the machine meets all of them, and every
+ * other round in the opposite order, since the first finds the claims out of the cache; the times are medians over the rounds, and a
+ * ratio is the median of the rounds' ratios.
  */
-#define _POSIX_C_SOURCE 200809L
 #include "board.h"
+#include "inverse.h"
 #include "judges.h"
 #include "maker.h"
 #include "peak.h"
+#include "times.h"
 #include "worked.h"
 
 #include <inttypes.h>
 #include <stdio.h>
 #include <stdlib.h>
-#include <time.h>
 
-enum { ROUNDS = 11, MOST_JUDGES = 3, CODES = 15, SHOWN = 20 };
-
-typedef uint64_t judge_function(const uint8_t *, size_t, const uint8_t *, size_t);
+enum { CODES = 15, SHOWN = 20 };
 
 static const struct judge {
     const char *name;
     judge_function *call;
 } judges[] = {
     {"board", judge},
+#ifdef WITH_EARLIER
+    {"earlier", earlier_judge},
+#endif
     {"plain", plain_judge},
 #ifdef WITH_FLINT
     {"FLINT", flint_judge},
@@ -40,7 +41,9 @@ static const struct bundle {
     enum group group;
     int claims;
     int repeats; /* so that a timing lasts some tens of milliseconds */
-} bundles[] = {{"largest", LARGEST, 64, 8}, {"mixed", MIXED, 2000, 4}, {"small", SMALL, 500, 60}};
+} bundles[] = {
+    {"largest", LARGEST, 64, 8}, {"mixed", MIXED, 2000, 4}, {"small", SMALL, 500, 60}, {"jobs", JOBS, 200, 20}, {"diagonal", DIAGONAL, 400, 40},
+};
 
 enum { BUNDLES = sizeof bundles / sizeof *bundles };
 
@@ -89,34 +92,6 @@ static void compare_bundle(const struct bundle *bundle, const struct files *file
     }
 }
 
-static double microseconds(void)
-{
-    struct timespec now;
-    clock_gettime(CLOCK_PROCESS_CPUTIME_ID, &now);
-    return (double)now.tv_sec * 1e6 + (double)now.tv_nsec / 1e3;
-}
-
-static double time_once(const struct bundle *bundle, const struct files *files, int judge)
-{
-    double start = microseconds();
-    for (int r = 0; r < bundle->repeats; r++)
-        for (int i = 0; i < bundle->claims; i++)
-            verdict(judge, &files[i]);
-    return (microseconds() - start) / bundle->repeats / bundle->claims;
-}
-
-static int compare_doubles(const void *a, const void *b)
-{
-    double x = *(const double *)a, y = *(const double *)b;
-    return (x > y) - (x < y);
-}
-
-static double median(double *values)
-{
-    qsort(values, ROUNDS, sizeof *values, compare_doubles);
-    return values[ROUNDS / 2];
-}
-
 static void print_header(void)
 {
     printf("%-8s %6s", "claims", "number");
@@ -130,10 +105,12 @@ static void print_header(void)
 
 static void print_times(const struct bundle *bundle, const struct files *files)
 {
-    double times[MOST_JUDGES][ROUNDS], sorted[ROUNDS];
+    double times[JUDGES][ROUNDS], sorted[ROUNDS];
     for (int round = 0; round < ROUNDS; round++)
-        for (int j = 0; j < JUDGES; j++)
-            times[j][round] = time_once(bundle, files, j);
+        for (int k = 0; k < JUDGES; k++) {
+            int j = round % 2 == 0 ? k : JUDGES - 1 - k;
+            times[j][round] = time_judge(judges[j].call, files, bundle->claims, bundle->repeats);
+        }
     printf("%-8s %6d", bundle->name, bundle->claims);
     for (int j = 0; j < JUDGES; j++) {
         for (int round = 0; round < ROUNDS; round++)
@@ -191,6 +168,13 @@ static void print_reading(void)
            reading_time(small.problem, small.problem_len, &small), reading_time(large.problem, UP_TO_P, &large));
 }
 
+static void print_inverse(const char *name, judge_function *call)
+{
+    static const uint32_t primes[] = {251, 257};
+    for (size_t i = 0; i < sizeof primes / sizeof *primes; i++)
+        printf("one inverse beyond that of 1, %s, p = %" PRIu32 ": %.1f ns\n", name, primes[i], time_inverse(call, primes[i]));
+}
+
 static struct files *make_bundle(const struct bundle *bundle)
 {
     struct files *files = malloc((size_t)bundle->claims * sizeof *files);
@@ -226,6 +210,10 @@ int main(void)
     struct peak peak = peak_stack();
     printf("peak stack of one call: judge %zu bytes, make_evidence %zu bytes\n", peak.judge, peak.make_evidence);
     print_reading();
+    print_inverse("board", judge);
+#ifdef WITH_EARLIER
+    print_inverse("earlier", earlier_judge);
+#endif
     for (int b = 0; b < BUNDLES; b++)
         free(files[b]);
     return differences == 0 ? 0 : 1;

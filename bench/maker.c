@@ -198,6 +198,30 @@ static void small_claim(struct claim *c, struct source *source)
     make_basis(c, source);
 }
 
+static void job_claim(struct claim *c, struct source *source)
+{
+    c->p = 251;
+    c->m = c->n = MOST_ROWS;
+    for (int i = 0; i < MOST_ROWS; i++) {
+        c->order[i] = 1 + (int)draw(source, MOST_ORDER);
+        c->shift[i] = (int)draw(source, 5) - 2;
+    }
+    make_f(c, source, MOST_ROWS - 1, (int)draw(source, MOST_ORDER + 1));
+    make_basis(c, source);
+}
+
+void make_diagonal(uint32_t p, uint32_t most, struct source *source, struct files *files)
+{
+    struct claim c = {.p = p, .m = MOST_ROWS, .n = MOST_ROWS};
+    for (int i = 0; i < MOST_ROWS; i++) {
+        c.order[i] = 1;
+        c.f[i][i][0] = 1;
+        c.length[i][i] = 2;
+        c.entry[i][i][1] = c.evidence[i][i] = 1 + draw(source, most);
+    }
+    write_files(&c, files);
+}
+
 static uint32_t some_prime(struct source *source)
 {
     static const uint32_t primes[] = {2, 3, 5, 7, 251, 257, 65521, 65537, 2147483629, 2147483647};
@@ -370,13 +394,24 @@ void make_files(enum group group, uint64_t number, struct files *files)
 {
     struct source source = {.state = number * 4 + (uint64_t)group};
     struct claim c = {0};
-    if (group == MIXED) {
-        mixed_files(&c, &source, number, files);
-        return;
-    }
-    if (group == LARGEST)
+    switch (group) {
+    case LARGEST:
         largest_claim(&c, &source, number);
-    else
+        write_files(&c, files);
+        break;
+    case MIXED:
+        mixed_files(&c, &source, number, files);
+        break;
+    case SMALL:
         small_claim(&c, &source);
-    write_files(&c, files);
+        write_files(&c, files);
+        break;
+    case JOBS:
+        job_claim(&c, &source);
+        write_files(&c, files);
+        break;
+    case DIAGONAL:
+        make_diagonal(251, 250, &source, files);
+        break;
+    }
 }

@@ -28,7 +28,7 @@ static void deepen(size_t *most, void (*call)(void))
 
 struct peak peak_stack(void)
 {
-    static const enum group groups[] = {LARGEST, MIXED, SMALL};
+    static const enum group groups[] = {LARGEST, MIXED, SMALL, JOBS, DIAGONAL};
     struct peak most = {0, 0};
     for (size_t g = 0; g < sizeof groups / sizeof *groups; g++)
         for (uint64_t i = 0; i < CLAIMS; i++) {
