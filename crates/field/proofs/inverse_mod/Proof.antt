@@ -11,11 +11,11 @@ returns c =
     let s = c .before in
     sym (inverse-zero (s .args .p) (s .pre .0) (s .args .a) (mod-eq-of-lt (s .pre .1) ∙ c .if1 .taken))
 
-inverse-by-remainders-requires : tie.Need-inverse-by-remainders-requires
-inverse-by-remainders-requires c κs = (c .before .pre .0, (omega arith, c .before .pre .1))
+inverse-of-requires : tie.Need-inverse-of-requires
+inverse-of-requires c κs = (c .before .pre .0, (omega arith, c .before .pre .1))
 
 returns-2 : tie.Need-returns-2
-returns-2 c = inverse-is _ (c .before .before .pre .0) _ _ (c .inverse-by-remainders .ensures)
+returns-2 c = inverse-is _ (c .before .before .pre .0) _ _ (c .inverse-of .ensures)
 
 pub inverse-mod-spec : {M : Type 1} → statement M
-inverse-mod-spec = tie.close (tie.spec returns inverse-by-remainders-requires returns-2)
+inverse-mod-spec = tie.close (tie.spec returns inverse-of-requires returns-2)
