@@ -193,15 +193,10 @@ module _ (p : ℕ) where
       let rest : C = inverse-loop k (p % r) (⊖ (red p (p / r) ⊗ c)) in
       ite (ℕ-discrete r 1) c rest
 
-  -- The inverse of a residue modulo a prime.
+  -- The inverse of a residue other than 0, modulo a prime.
   unfoldable pub K-inverse : C → C
   unfolding inverse-loop red ℕ-discrete
   K-inverse a = inverse-loop (a .0) (a .0) 𝟙
-
-  -- The inverse of 0 is taken to be 0.
-  pub K-inverse-zero : K-inverse 𝟘 ≡ 𝟘
-  unfolding K-inverse
-  K-inverse-zero = ap (λ n. inverse-loop n n 𝟙) (zero-mod (suc (pred p)))
 
   -- The number stays between 0 and p and falls at each step, so that r steps are enough to come to 1.
   inverse-loop-inverts : Prime p → (a : C) (k r : ℕ) (c : C) → r ≤ k → 0 < r → r < p → a ⊗ c ≡ red p r → a ⊗ inverse-loop k r c ≡ 𝟙

@@ -18,12 +18,13 @@ use lib.ListN.{length, getD, set}
 use lib.Seq.{getD-set-same, getD-set-other}
 use Rattle.algebra.specs.Ring.{CommRing}
 use Rattle.algebra.specs.Prime.{Prime}
-use Rattle.algebra.specs.Residue.{K, red, red-zero-iff, K-decides, K-nontrivial, K-inverse, K-inverts, K-cancels}
+use Rattle.algebra.specs.Residue.{K, red, K-decides, K-nontrivial, K-inverse, K-inverts, K-cancels}
 use Rattle.algebra.specs.Sum.{swap, swap-left, swap-cases, exchange}
 use Rattle.algebra.specs.Det.{det}
 use Rattle.algebra.specs.Dependence.{Dependent}
 use Rattle.algebra.specs.Elimination.{dependent-iff-det-zero}
-use Rattle.rules.specs.Inverse.{inverse}
+use Rattle.rules.specs.Inverse.{InverseOf}
+use Rattle.rules.specs.InverseLaws.{inverse-exists}
 use Rattle.field.specs.Laws.{remainder-below, red-of-sub, red-of-mul, red-of-inverse}
 use Rattle.elimination.specs.Steps.{Rest, rest-start, rest-exchange, rest-zero-column, rest-clear, rest-no-rows, rest-no-columns}
 use Rattle.elimination.specs.Lists.{kept-set}
@@ -93,9 +94,9 @@ module _ (p : ℕ) where
   exchanged-below a i k b exchanged below j = subst (Each p) (sym (exchanged j)) (below (swap i k j))
 
   -- An exchange and the clearing of the rows below are a step.
-  pub stepped : Prime p → (a : List (List ℕ)) (r c k m n v : ℕ) (s b : List (List ℕ)) → r ≤ k → k < m → c < n → at a k c ≢ 0 → at a k c < p
-      → v ≡ inverse p (at a k c) → Exchanged a r k s → Cleared p s v r c m n b → Stepped p a r c m n b
-  stepped prime a r c k m n v s b low high hc nonzero small ev exchanged cleared =
+  pub stepped : Prime p → (a : List (List ℕ)) (r c k m n v : ℕ) (s b : List (List ℕ)) → r ≤ k → k < m → c < n → InverseOf p (at a k c) v
+      → Exchanged a r k s → Cleared p s v r c m n b → Stepped p a r c m n b
+  stepped prime a r c k m n v s b low high hc inverse exchanged cleared =
       record {
         below = cleared .below;
         same =
@@ -112,14 +113,13 @@ module _ (p : ℕ) where
       entry = ap (λ w. red p (getD w c 0)) (exchanged r ∙ ap (λ i. getD a i []) (swap-left r k))
 
       inverts : grid p s r c ⊗ red p v ≡ 𝟙
-      inverts =
-          ap₂ (λ x y. x ⊗ y) entry (red-of-inverse p prime (at a k c) v ev)
-          ∙ K-inverts p prime (red p (at a k c)) (λ z. nonzero (sym (mod-eq-of-lt small) ∙ red-zero-iff p (le-of-lt (prime .two-le)) (at a k c) .0 z))
+      inverts = ap (λ x. x ⊗ red p v) entry ∙ red-of-inverse p prime (at a k c) v inverse
 
   -- The last row's step has nothing to exchange and nothing to clear.
   pub stepped-last : Prime p → (a : List (List ℕ)) (r c k m n : ℕ) → r ≤ k → k < m → r + 1 ≡ m → c < n → at a k c ≢ 0 → at a k c < p → Below p a → Stepped p a r c m n a
   stepped-last prime a r c k m n low high last hc nonzero small below =
-      stepped prime a r c k m n (inverse p (at a k c)) a a low high hc nonzero small refl
+      let (v, inverse) = inverse-exists p prime (at a k c) (λ z. nonzero (sym (mod-eq-of-lt small) ∙ z)) in
+      stepped prime a r c k m n v a a low high hc inverse
       (swap-cases r k (λ i j. getD a i [] ≡ getD a j []) (ap row (omega arith)) (ap row (omega arith)) (λ i ni nk. refl))
       (record { below = below; kept = refl; rows = λ i hi hr. absurd (omega arith); stay = λ i h. refl })
     where

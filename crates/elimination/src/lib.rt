@@ -12,6 +12,7 @@ ghost use Rattle.layout.specs.Flat.{width};
 ghost use Rattle.layout.specs.Holds.{Each};
 ghost use Rattle.layout.specs.Settles.{Settles};
 ghost use Rattle.elimination.specs.Grid.{at, grid, Below, Found, Exchanged, RowLess, Cleared, Stepped};
+use field::Inverse;
 use layout::COLUMNS;
 use layout::ROWS;
 
@@ -93,7 +94,7 @@ fn clear_below(a: Grid, p: u32, v: u32, r: usize, c: usize, m: usize, n: usize) 
 
 // a: the matrix, of numbers below p. r, c: the row and the column that the step is at. k: a row from r on, not 0 in column c.
 // The matrix with row k in the place of row r, and column c cleared below it. The last row has none below it: the matrix stays, and no
-// inverse is asked for.
+// inverse is asked for. That of 0 is never asked for, and the answer is never none.
 fn step(a: Grid, p: u32, r: usize, c: usize, k: usize, m: usize, n: usize) -> Grid
     requires { ⌜ Prime p ⌝ }
     requires { ⌜ Below p a ⌝ }
@@ -108,7 +109,9 @@ fn step(a: Grid, p: u32, r: usize, c: usize, k: usize, m: usize, n: usize) -> Gr
     if r + 1 == m {
         return a;
     }
-    let v = field::inverse_mod(a[k][c], p);
+    let Inverse::Of(v) = field::inverse_mod(a[k][c], p) else {
+        return a;
+    };
     let b = swap_rows(a, r, k);
     clear_below(b, p, v, r, c, m, n)
 }

@@ -1,7 +1,7 @@
 -- The operations modulo p, as the functions of this crate compute them on numbers, carried to the residues.
 --   remainder-below          a remainder is below p
 --   red-of-add, red-of-sub, red-of-neg, red-of-mul    the residue of each result
---   red-of-inverse           the residue of an inverse
+--   red-of-inverse           a residue times that of the inverse
 -- and what their proofs share:
 --   product-fits             a product of two numbers below 2 ^ 32 is below 2 ^ 64
 --   mod-once                 a remainder by one subtraction
@@ -14,9 +14,8 @@ use mir.Syntax.{w64}
 use mir.Val.{Fits}
 use Rattle.algebra.specs.Ring.{CommRing}
 use Rattle.algebra.specs.Prime.{Prime}
-use Rattle.algebra.specs.Residue.{K, red, red-mod, red-add, red-mul, red-neg, K-inverse}
-use Rattle.rules.specs.Inverse.{inverse}
-use Rattle.rules.specs.InverseLaws.{red-inverse}
+use Rattle.algebra.specs.Residue.{K, red, red-mod, red-add, red-mul, red-neg, red-mul-one-iff}
+use Rattle.rules.specs.Inverse.{InverseOf}
 
 -- A product of two numbers of 32 bits fits 64 bits.
 pub product-fits : (a b : ℕ) → a < 2 ^ 32 → b < 2 ^ 32 → Fits w64 (a * b)
@@ -52,6 +51,6 @@ module _ (p : ℕ) where
   pub red-of-mul : (a b r : ℕ) → r ≡ a * b % p → red p r ≡ red p a ⊗ red p b
   red-of-mul a b r e = ap (red p) e ∙ red-mod p (a * b) ∙ red-mul p a b
 
-  -- … and an inverse that of the inverse.
-  pub red-of-inverse : Prime p → (a r : ℕ) → r ≡ inverse p a → red p r ≡ K-inverse p (red p a)
-  red-of-inverse prime a r e = ap (red p) e ∙ red-inverse p prime a
+  -- … and with the inverse the product is 1.
+  pub red-of-inverse : Prime p → (a r : ℕ) → InverseOf p a r → red p a ⊗ red p r ≡ 𝟙
+  red-of-inverse prime a r h = red-mul-one-iff p (prime .two-le) a r .1 (h .one)

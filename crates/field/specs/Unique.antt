@@ -1,8 +1,12 @@
 -- Each public function's contract leaves one result: two results that satisfy it are equal.
-use mathlib.Core.Path.{_≡_, sym, _∙_}
+use mathlib.Core.Path.{_≡_, refl, sym, ap, _∙_}
+use mathlib.Core.Option.{Option, none, some}
 use Prim.Native.Nat.{ℕ, _+_, _-_, _*_, _%_}
 use Rattle.rules.specs.Inverse.{inverse}
+use Rattle.field.specs.declared.Inverse.{Inverse}
+use Rattle.field.specs.declared.Inverse.the-variants.{Of, None}
 use Rattle.field.specs.Cut.{cut}
+use Rattle.field.specs.Meant.{meant}
 
 pub cut-mod-unique : (p r s : ℕ) → r ≡ cut % p → s ≡ cut % p → r ≡ s
 cut-mod-unique p r s hr hs = hr ∙ sym hs
@@ -19,5 +23,14 @@ neg-mod-unique a p r s hr hs = hr ∙ sym hs
 pub mul-mod-unique : (a b p r s : ℕ) → r ≡ a * b % p → s ≡ a * b % p → r ≡ s
 mul-mod-unique a b p r s hr hs = hr ∙ sym hs
 
-pub inverse-mod-unique : (a p r s : ℕ) → r ≡ inverse p a → s ≡ inverse p a → r ≡ s
-inverse-mod-unique a p r s hr hs = hr ∙ sym hs
+-- The answer that means a number, or none.
+abbrev answer-for : Option ℕ → Inverse
+answer-for (some b) = Of b
+answer-for none = None
+
+answer-for-meant : (r : Inverse) → answer-for (meant r) ≡ r
+answer-for-meant (Of b) = refl
+answer-for-meant None = refl
+
+pub inverse-mod-unique : (a p : ℕ) (r s : Inverse) → meant r ≡ inverse p a → meant s ≡ inverse p a → r ≡ s
+inverse-mod-unique a p r s hr hs = sym (answer-for-meant r) ∙ ap answer-for (hr ∙ sym hs) ∙ answer-for-meant s

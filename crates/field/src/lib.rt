@@ -4,6 +4,7 @@ ghost use Prim.Native.Nat.{_+_, _-_, _*_, _%_, _<_};
 ghost use Rattle.algebra.specs.Prime.{Prime};
 ghost use Rattle.rules.specs.Inverse.{inverse, InverseOf};
 ghost use Rattle.field.specs.Cut.{cut};
+ghost use Rattle.field.specs.Meant.{meant};
 
 mod bench_field;
 
@@ -93,15 +94,21 @@ fn inverse_of(a: u32, p: u32) -> u32
     }
 }
 
+// The inverse of a number: a number, or none.
+pub enum Inverse {
+    Of(u32),
+    None,
+}
+
 // p: a prime. a: a number below p.
-// The number below p whose product with a is 1 modulo p; of 0, it is 0.
-pub fn inverse_mod(a: u32, p: u32) -> u32
+// The number below p whose product with a is 1 modulo p; 0 has none.
+pub fn inverse_mod(a: u32, p: u32) -> Inverse
     requires { ⌜ Prime p ⌝ }
     requires { ⌜ a < p ⌝ }
-    ensures { λ r. ⌜ r ≡ inverse p a ⌝ }
+    ensures { λ r. ⌜ meant r ≡ inverse p a ⌝ }
 {
-    if a == 0 {
-        return 0;
+    match a {
+        0 => Inverse::None,
+        _ => Inverse::Of(inverse_of(a, p)),
     }
-    inverse_of(a, p)
 }

@@ -1,6 +1,8 @@
--- An exchange of rows and the clearing of a column are a step of elimination; the last row needs neither.
+-- An exchange of rows and the clearing of a column are a step of elimination; the last row needs neither. The entry whose inverse is asked
+-- for is not 0, so that the answer is not none.
 use native.Mathlib.Omega.{arith}
 use borrow.Author.Needs.{needs}
+use Rattle.field.specs.Meant.{answered-of, answered-none}
 use Rattle.elimination.specs.Laws.{exchanged-below, stepped, stepped-last}
 use Rattle.rules.specs.Sizes.{most-rows}
 use Rattle.elimination.proofs.step.Statement.{statement}
@@ -33,19 +35,34 @@ index-2-inverse-mod c = search needs
 inverse-mod-requires : tie.Need-inverse-mod-requires
 inverse-mod-requires c κs = (c .before .before .pre .0, c .before .before .pre .1 .0 _ _)
 
+enum-known-v : tie.Need-enum-known-v
+enum-known-v c = search needs
+
+enum-told : tie.Need-enum-told
+enum-told c = search needs
+
+-- Not reached: 0 alone has no inverse, and the entry is not 0.
+returns-2 : tie.Need-returns-2
+returns-2 c =
+    let answered = c .before .before in
+    let s = answered .before .before .before in
+    absurd (s .pre .1 .1 .1 .1 .1 .1 .1 (answered-none _ (s .pre .0) _ (s .pre .1 .0 _ _) _ (answered .inverse-mod .ensures) (c .enum-told .given .1)))
+
 swap-rows-requires : tie.Need-swap-rows-requires
 swap-rows-requires c κs = search needs
 
 clear-below-requires : tie.Need-clear-below-requires
 clear-below-requires c κs =
-    let s = c .before .before .before .before in
+    let s = c .before .before .before .before .before .before .before in
     (exchanged-below _ (s .args .t1) (s .args .r) (s .args .k) (c .swap-rows .result) (c .swap-rows .ensures) (s .pre .1 .0), (omega arith, (omega arith, (omega arith, omega arith))))
 
-returns-2 : tie.Need-returns-2
-returns-2 c =
-    let s = c .before .before .before .before .before in
-    stepped _ (s .pre .0) _ _ _ _ _ _ _ _ _ (omega arith) (omega arith) (omega arith) (s .pre .1 .1 .1 .1 .1 .1 .1) (s .pre .1 .0 _ _)
-    (c .before .before .inverse-mod .ensures) (c .before .swap-rows .ensures) (c .clear-below .ensures)
+returns-3 : tie.Need-returns-3
+returns-3 c =
+    let answered = c .before .before .before .before .before in
+    let s = answered .before .before .before in
+    stepped _ (s .pre .0) _ _ _ _ _ _ _ _ _ (omega arith) (omega arith) (omega arith)
+    (answered-of _ (s .pre .0) _ _ _ (answered .inverse-mod .ensures) (c .before .before .before .v .given .1))
+    (c .before .swap-rows .ensures) (c .clear-below .ensures)
 
 pub step-spec : {M : Type 1} → statement M
 step-spec =
@@ -58,6 +75,9 @@ step-spec =
     index-1-inverse-mod
     index-2-inverse-mod
     inverse-mod-requires
+    enum-known-v
+    enum-told
+    returns-2
     swap-rows-requires
     clear-below-requires
-    returns-2)
+    returns-3)
