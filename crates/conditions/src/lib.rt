@@ -19,7 +19,7 @@ use claim::Head;
 use degrees::Degree;
 use degrees::degree_sum;
 use degrees::not_negative;
-use determinant::determinant_is_monomial;
+use determinant::determinant_of;
 use elimination::dependent;
 use elimination::singular;
 use layout::COLUMN_COEFFICIENTS;
@@ -27,6 +27,7 @@ use layout::ENTRY_COEFFICIENTS;
 use layout::SQUARE;
 use matrix::leading::leading_matrix;
 use matrix::rank::rank_matrix;
+use polynomial::is_monomial;
 use product::fault::FirstFault;
 use product::fault::first_low_fault;
 use product::fault::first_order_fault;
@@ -126,7 +127,7 @@ fn applying<'a>(
     match code {
         9 => fault_if(not_reduced(head, lengths, entries), Verdict::NotReduced),
         10 => fault_if(
-            !determinant_is_monomial(entries, lengths, head.p, head.m),
+            !is_monomial(determinant_of(entries, lengths, head.p, head.m)),
             Verdict::NotMonomial,
         ),
         11 => below_order(head, f, lengths, entries),

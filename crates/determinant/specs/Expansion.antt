@@ -20,7 +20,8 @@ use Rattle.algebra.specs.Det.{det, minor, det-local}
 use Rattle.rules.specs.Sizes.{most-rows}
 use Rattle.field.specs.Cut.{cut}
 use Rattle.layout.specs.Flat.{length-at, cell, cells}
-use Rattle.determinant.specs.Padded.{Stands, Filled, Remainder, filled-small, filled-stands, getD-zeros, most-power, capacity}
+use Rattle.polynomial.specs.Coefficients.{most-power}
+use Rattle.determinant.specs.Padded.{Stands, Filled, Remainder, filled-small, filled-stands, getD-zeros, capacity}
 use Rattle.determinant.specs.Product.{AddedProduct}
 use Rattle.determinant.specs.Sign.{signed, SignedEntry}
 use Rattle.determinant.specs.Tops.{Tops}

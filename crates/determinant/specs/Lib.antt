@@ -5,5 +5,5 @@ pub mod Sign
 pub mod Tops
 pub mod Square
 pub mod Expansion
-pub mod Count
+pub mod Unpadded
 pub mod Unique

@@ -1,12 +1,11 @@
 -- How a polynomial modulo p lies in an array: two zeros, then its coefficients from power 0 on, then zeros, at least two of them.
---   most-power               the highest power in a determinant
 --   capacity                 the numbers of such an array
 --   Stands p l f             the array l stands for the polynomial f
 --   Filled n P l             the first n coefficients of l satisfy P 0, P 1, …, and everything else is 0
 use mathlib.Core.Path.{_≡_, refl, sym, ap, subst, _∙_}
 use mathlib.Core.Logic.{_≢_}
 use mathlib.Core.List.{List}
-use Prim.Native.Nat.{ℕ, zero, suc, _+_, _-_, _*_, _%_, _≤_, _<_}
+use Prim.Native.Nat.{ℕ, zero, suc, _+_, _%_, _≤_, _<_}
 use native.Mathlib.Nat.{not-suc-le-zero}
 use native.Mathlib.Numerals.{add-two}
 use native.Mathlib.Omega.{arith}
@@ -16,17 +15,12 @@ use lib.Seq.{getD-set-same, getD-set-other}
 use Rattle.algebra.specs.Residue.{K, Residue, red}
 use Rattle.algebra.specs.Series.{shift}
 use Rattle.algebra.specs.Polynomial.{Below}
-use Rattle.rules.specs.Sizes.{most-rows, most-length}
+use Rattle.polynomial.specs.Coefficients.{most-coefficients}
 use Rattle.layout.specs.Holds.{Each}
-
--- Each of the rows contributes one entry, whose powers are below most-length.
-unfoldable pub most-power : ℕ
-most-power = most-rows * (most-length - 1)
 
 -- Two zeros before the coefficients and two after.
 unfoldable pub capacity : ℕ
-unfolding most-power
-capacity = 2 + (1 + most-power) + 2
+capacity = 2 + most-coefficients + 2
 
 -- The numbers of l are the coefficients of X²·f.
 abbrev pub Stands : (p : ℕ) → List ℕ → (ℕ → Residue p) → Type 0

@@ -2,7 +2,7 @@
 --   Holds p m entries lengths      the array holds an m × m matrix of polynomials modulo p, whose entries have the lengths
 --   square p entries row columns   the square of the rows from `row` on and the columns that a list names
 --   Asked                    what is asked for the determinant of a square
---   Polynomial p top f l     the array l stands for f, which has no power above top, and its numbers are below p
+--   StandsFor p top f l      the array l stands for f, which has no power above top, and its numbers are below p
 --   Determinant              the array of a square's determinant
 --   Without j columns left   the columns without the j-th
 use mathlib.Core.Path.{_≡_, refl, sym, ap, subst, _∙_}
@@ -48,13 +48,13 @@ pub record Asked (p c size row : ℕ) (entries lengths tops columns : List ℕ) 
   pub within : (j : ℕ) → j < size → getD columns j 0 < row + size
 
 -- The array l stands for the polynomial f, which has no power above top, and its numbers are below p.
-pub record Polynomial (p top : ℕ) (f : ℕ → Residue p) (l : List ℕ) : Type 0 where
+pub record StandsFor (p top : ℕ) (f : ℕ → Residue p) (l : List ℕ) : Type 0 where
   pub stands : Stands p l f
   pub below : Below (K p) (suc top) f
   pub small : Each p l
 
 abbrev pub Determinant : (p size row : ℕ) (entries tops columns l : List ℕ) → Type 0
-Determinant p size row entries tops columns l = Polynomial p (getD tops row 0) (det (Series (K p)) size (square p entries row columns)) l
+Determinant p size row entries tops columns l = StandsFor p (getD tops row 0) (det (Series (K p)) size (square p entries row columns)) l
 
 -- The columns without the j-th.
 abbrev pub Without : (j : ℕ) (columns left : List ℕ) → Type 0

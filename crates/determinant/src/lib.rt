@@ -8,38 +8,34 @@ use field::CUT;
 use field::cut_mod;
 use field::neg_mod;
 use layout::ENTRY_COEFFICIENTS;
-use layout::LENGTH;
 use layout::ROWS;
 use layout::SQUARE;
 use layout::entry_place;
 use layout::square_place;
+use polynomial::COEFFICIENTS;
+use polynomial::Polynomial;
 ghost use mathlib.Core.Path.{_≡_};
 ghost use Prim.Native.Nat.{pred, max, _+_, _*_, _^_, _≤_, _<_};
-ghost use lib.Dec.{eqb};
-ghost use lib.ListN.{length, getD, replicate};
+ghost use lib.ListN.{length, replicate};
 ghost use Rattle.algebra.specs.Residue.{K};
 ghost use Rattle.algebra.specs.Series.{Series};
 ghost use Rattle.algebra.specs.Sum.{skip};
 ghost use Rattle.algebra.specs.Det.{det};
-ghost use Rattle.algebra.specs.OrderBasis.{Monomial};
 ghost use Rattle.rules.specs.Sizes.{most-rows, most-length};
 ghost use Rattle.layout.specs.Flat.{length-at, cells};
 ghost use Rattle.layout.specs.Holds.{Each};
-ghost use Rattle.layout.specs.Settles.{Settles};
-ghost use Rattle.determinant.specs.Padded.{most-power, capacity, Filled, Remainder};
+ghost use Rattle.polynomial.specs.Coefficients.{most-power, ZerosFrom, Ends, Coefficients};
+ghost use Rattle.determinant.specs.Padded.{capacity, Filled, Remainder};
 ghost use Rattle.determinant.specs.Fold.{Folded};
 ghost use Rattle.determinant.specs.Product.{Added, AddedTriple, AddedProduct};
 ghost use Rattle.determinant.specs.Sign.{Signed, SignedEntry};
 ghost use Rattle.determinant.specs.Tops.{Tops, RowTop};
 ghost use Rattle.determinant.specs.Square.{Holds, Asked, Determinant, Without};
 ghost use Rattle.determinant.specs.Expansion.{InOrder};
-ghost use Rattle.determinant.specs.Count.{counted, nonzeros};
-
-// The highest power in a determinant: each row contributes one entry.
-const MOST_POWER: usize = ROWS * (LENGTH - 1);
+ghost use Rattle.determinant.specs.Unpadded.{coefficient, Unpadded};
 
 // The numbers of an array that holds a polynomial.
-const CAPACITY: usize = 2 + (1 + MOST_POWER) + 2;
+const CAPACITY: usize = 2 + COEFFICIENTS + 2;
 
 // The polynomial 0.
 fn no_coefficients() -> [u32; CAPACITY]
@@ -320,41 +316,53 @@ fn all_columns() -> [usize; ROWS]
     columns
 }
 
-// 0 for 0 and 1 for any other number.
-fn one_if_nonzero(x: u32) -> usize
-    ensures { λ r. ⌜ r ≡ counted x ⌝ }
+// l: a polynomial of the work, of at most `bound` coefficients.
+// Their number without the zeros at the end.
+fn length_of(l: &[u32; CAPACITY], bound: usize) -> usize
+    requires { ⌜ ZerosFrom (coefficient (now l)) bound ⌝ }
+    ensures { λ r. ⌜ Ends (coefficient (now (l .entry))) r ⌝ }
 {
-    if x == 0 { 0 } else { 1 }
+    let mut n = bound;
+    while 0 < n {
+        if l[n + 1] != 0 {
+            return n;
+        }
+        n -= 1;
+    }
+    0
 }
 
-// l: a polynomial with no power above top.
-// Whether exactly one of its coefficients is not 0.
-fn is_monomial(l: &[u32; CAPACITY], top: usize) -> bool
-    requires { ⌜ top ≤ most-power ⌝ }
-    ensures { λ r. ⌜ r ≡ eqb (nonzeros (λ k. getD (now (l .entry)) (k + 2) 0) (top + 1)) 1 ⌝ }
+// l: a polynomial of the work. length: the number of its coefficients.
+// The polynomial, without the zeros in front.
+fn unpadded(l: &[u32; CAPACITY], length: usize) -> Polynomial
+    ensures { λ r. ⌜ Unpadded (now (l .entry)) length r ⌝ }
 {
-    let mut n: usize = 0;
-    for k in 0..top + 1 {
-        n += one_if_nonzero(l[k + 2]);
+    let mut f = Polynomial {
+        coefficients: [0; COEFFICIENTS],
+        length,
+    };
+    for k in 0..COEFFICIENTS {
+        f.coefficients[k] = l[k + 2];
     }
-    n == 1
+    f
 }
 
 // entries: the coefficients of an m × m matrix of polynomials modulo p, each below p, an entry's coefficients followed by zeros. lengths:
 // how many coefficients each entry has. p: from 2 to the largest prime that is allowed.
-// Whether the determinant of the matrix is a nonzero constant times a power of X.
-pub fn determinant_is_monomial(
+// The determinant of the matrix.
+pub fn determinant_of(
     entries: &[u32; ENTRY_COEFFICIENTS],
     lengths: &[usize; SQUARE],
     p: u32,
     m: usize,
-) -> bool
+) -> Polynomial
     requires { ⌜ Holds p m (now entries) (now lengths) ⌝ }
-    ensures { λ r. ⌜ Settles (Monomial (K p) (det (Series (K p)) m (cells p (now (entries .entry))))) r ⌝ }
+    ensures { λ r. ⌜ Coefficients p (det (Series (K p)) m (cells p (now (entries .entry)))) r ⌝ }
 {
     let tops = row_tops(lengths, m);
     let columns = all_columns();
     let c = cut_mod(p);
     let l = determinant(entries, lengths, &tops, p, c, m, 0, &columns);
-    is_monomial(&l, tops[0])
+    let length = length_of(&l, tops[0] + 1);
+    unpadded(&l, length)
 }

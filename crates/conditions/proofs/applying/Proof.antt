@@ -2,6 +2,7 @@ use borrow.Author.Needs.{needs}
 use denote.Ref.{now}
 use Rattle.rules.specs.Claim.{Claim}
 use Rattle.claim.specs.Claims.{claim-of}
+use Rattle.polynomial.specs.Count.{tests-monomial}
 use Rattle.conditions.specs.Steps.{square-of}
 use Rattle.conditions.specs.Findings.{found-as, found-not-reduced, found-not-monomial, found-below, found-at, found-low-rank, found-nothing}
 use Rattle.conditions.proofs.applying.Statement.{statement}
@@ -17,8 +18,11 @@ not-reduced-requires c κs = let pre = c .before .pre in (pre .sound-head, pre .
 fault-if-requires : tie.Need-fault-if-requires
 fault-if-requires c κs = search needs
 
-determinant-is-monomial-requires : tie.Need-determinant-is-monomial-requires
-determinant-is-monomial-requires c κs = let pre = c .before .pre in square-of (pre .sound-head) (pre .sound-basis)
+determinant-of-requires : tie.Need-determinant-of-requires
+determinant-of-requires c κs = let pre = c .before .pre in square-of (pre .sound-head) (pre .sound-basis)
+
+is-monomial-requires : tie.Need-is-monomial-requires
+is-monomial-requires c κs = c .determinant-of .ensures .trimmed
 
 fault-if-requires-2 : tie.Need-fault-if-requires-2
 fault-if-requires-2 c κs = search needs
@@ -45,11 +49,12 @@ returns c =
 
 returns-2 : tie.Need-returns-2
 returns-2 c =
-    let s = c .before .before .before in
+    let s = c .before .before .before .before in
     let a = s .args in
-    let test = c .before .determinant-is-monomial in
-    found-as (claimed s) (c .before .before .match .keys2) (c .fault-if2 .ensures)
-    (found-not-monomial (a .head) (now (a .f)) (now (a .lengths)) (now (a .entries)) (now (a .c)) (s .pre) (test .result) (test .ensures))
+    let test = c .before .is-monomial in
+    let settled = tests-monomial (c .before .before .determinant-of .ensures) (test .ensures) in
+    found-as (claimed s) (c .before .before .before .match .keys2) (c .fault-if2 .ensures)
+    (found-not-monomial (a .head) (now (a .f)) (now (a .lengths)) (now (a .entries)) (now (a .c)) (s .pre) (test .result) settled)
 
 returns-3 : tie.Need-returns-3
 returns-3 c =
@@ -85,7 +90,8 @@ applying-spec =
     (tie.spec
     not-reduced-requires
     fault-if-requires
-    determinant-is-monomial-requires
+    determinant-of-requires
+    is-monomial-requires
     fault-if-requires-2
     below-order-requires
     at-order-requires

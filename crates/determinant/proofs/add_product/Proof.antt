@@ -1,6 +1,7 @@
 use native.Mathlib.Omega.{arith}
 use Rattle.rules.specs.Sizes.{most-rows, most-length}
-use Rattle.determinant.specs.Padded.{most-power, capacity}
+use Rattle.polynomial.specs.Coefficients.{most-power}
+use Rattle.determinant.specs.Padded.{capacity}
 use mathlib.Core.Path.{_≡_}
 use Prim.Native.Nat.{_+_, _-_, _≤_}
 use lib.ListN.{length}

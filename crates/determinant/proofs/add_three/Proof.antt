@@ -1,7 +1,8 @@
 use borrow.Author.Needs.{needs}
 use native.Mathlib.Omega.{arith}
 use Rattle.rules.specs.Sizes.{most-rows, most-length}
-use Rattle.determinant.specs.Padded.{most-power, capacity}
+use Rattle.polynomial.specs.Coefficients.{most-power}
+use Rattle.determinant.specs.Padded.{capacity}
 use Prim.Native.Nat.{_+_}
 use Rattle.determinant.specs.Product.{added}
 use Rattle.determinant.proofs.add_three.Statement.{statement}

@@ -1,6 +1,7 @@
 use mathlib.Core.Path.{refl}
 use Rattle.rules.specs.Sizes.{most-rows, most-length}
-use Rattle.determinant.specs.Padded.{most-power, capacity}
+use Rattle.polynomial.specs.Coefficients.{most-power}
+use Rattle.determinant.specs.Padded.{capacity}
 use Rattle.determinant.proofs.no_sums.Statement.{statement}
 use Rattle.determinant.proofs.no_sums.Tie as tie
 

@@ -1,7 +1,8 @@
 use borrow.Author.Needs.{needs}
 use native.Mathlib.Omega.{arith}
 use Rattle.rules.specs.Sizes.{most-rows, most-length}
-use Rattle.determinant.specs.Padded.{most-power, capacity, Filled, filled-none, filled-more}
+use Rattle.polynomial.specs.Coefficients.{most-power}
+use Rattle.determinant.specs.Padded.{capacity, Filled, filled-none, filled-more}
 use mathlib.Core.Path.{_≡_, subst, sym, ap, _∙_}
 use Prim.Native.Nat.{ℕ, _+_, _-_, _≤_}
 use lib.ListN.{getD, length-set, length-replicate}

@@ -1,24 +1,28 @@
 -- How a count of the numbers other than 0 tells whether exactly one coefficient of a polynomial is not 0.
 --   counted x                0 for 0 and 1 for every other number
 --   nonzeros g n             how many of g 0, …, g (n − 1) are not 0
---   count-settles            the count settles whether f is a nonzero constant times a power of X
+--   TestsMonomial l r        r tells whether the polynomial of l is a nonzero constant times a power of X, whatever its modulus
+--   count-settles            the count tells it
+--   tests-monomial           what that tells of the polynomial whose coefficients they are
 use mathlib.Core.Path.{_≡_, refl, sym, ap, subst, _∙_}
 use mathlib.Core.Logic.{_≢_}
 use mathlib.Core.Bool.{Bool, cond}
 use mathlib.Core.List.{List}
 use Prim.Native.Nat.{ℕ, zero, suc, _+_, _≤_, _<_}
 use native.Mathlib.Nat.{mod-eq-of-lt, not-suc-le-zero}
-use native.Mathlib.Numerals.{add-one, add-two}
+use native.Mathlib.Numerals.{add-one}
 use native.Mathlib.Omega.{arith}
 use native.Mathlib.Decide.{decLt, ℕ-discrete}
 use lib.Dec.{eqb}
 use lib.ListN.{getD}
 use borrow.Author.Tests.{eqb-true, eqb-false, eq-eqb, ne-eqb}
 use Rattle.algebra.specs.Residue.{K, Residue, red, red-zero-iff}
-use Rattle.algebra.specs.Series.{shift}
 use Rattle.algebra.specs.OrderBasis.{Monomial}
+use Rattle.rules.specs.Matrices.{polynomial}
+use Rattle.layout.specs.Holds.{Each}
 use Rattle.layout.specs.Settles.{Settles}
-use Rattle.determinant.specs.Square.{Polynomial}
+use Rattle.polynomial.specs.Coefficients.{ZerosFrom, Coefficients}
+use Rattle.polynomial.specs.declared.Polynomial.{Polynomial}
 
 -- 0 for 0 and 1 for every other number.
 abbrev pub counted : ℕ → ℕ
@@ -93,32 +97,31 @@ one-of-only g (suc n) e (b, ne, others) = elim (ℕ-discrete n e) [
     lower : n ≢ e → e < n
     lower d = omega arith
 
--- The count of the coefficients that an array has settles whether exactly one coefficient of the polynomial is not 0.
-pub count-settles : {p top : ℕ} {f : ℕ → Residue p} {l : List ℕ} {r : Bool} → Polynomial p top f l
-    → r ≡ eqb (nonzeros (λ k. getD l (k + 2) 0) (top + 1)) 1 → Settles (Monomial (K p) f) r
-unfolding shift
-count-settles {p} {top} {f} {l} array counts = record {
+abbrev pub TestsMonomial : List ℕ → Bool → Type 0
+TestsMonomial l r = (p : ℕ) → Each p l → Settles (Monomial (K p) (polynomial p l .series)) r
+
+-- The count of the coefficients other than 0 tells whether there is exactly one.
+pub count-settles : (l : List ℕ) {n : ℕ} {r : Bool} → ZerosFrom (λ k. getD l k 0) n → r ≡ eqb (nonzeros (λ k. getD l k 0) n) 1 → TestsMonomial l r
+count-settles l {n} {r} zeros counts p small = record {
   holds = λ e.
-      let (place, (b, ne, others)) = only-of-one g (top + 1) (eqb-true (nonzeros g (top + 1)) 1 (sym counts ∙ e)) in
-      (place, λ z. ne (zero-below place z), λ k d. elim (decLt k (top + 1)) [ yes h ↦ zero-above k (others k h d) | no h ↦ array .below k (omega arith) ]);
+      let (place, (b, ne, others)) = only-of-one g n (eqb-true (nonzeros g n) 1 (sym counts ∙ e)) in
+      (place, λ z. ne (zero-below place z), λ k d. elim (decLt k n) [ yes h ↦ ap (red p) (others k h d) | no h ↦ ap (red p) (zeros .past k (omega arith)) ]);
   fails = λ e monomial.
       let (place, ne, others) = monomial in
-      eqb-false (nonzeros g (top + 1)) 1 (sym counts ∙ e)
-      (one-of-only g (top + 1) place (
-        elim (decLt place (top + 1)) [ yes h ↦ h | no h ↦ absurd (ne (array .below place (omega arith))) ],
-        λ z. ne (zero-above place z),
+      eqb-false (nonzeros g n) 1 (sym counts ∙ e)
+      (one-of-only g n place (
+        elim (decLt place n) [ yes h ↦ h | no h ↦ absurd (ne (ap (red p) (zeros .past place (omega arith)))) ],
+        λ z. ne (ap (red p) z),
         λ k h d. zero-below k (others k d),
       ));
 }
   where
     g : ℕ → ℕ
-    g k = getD l (k + 2) 0
+    g k = getD l k 0
 
-    same : (k : ℕ) → red p (g k) ≡ f k
-    same k = ap (λ i. red p (getD l i 0)) (add-two k) ∙ array .stands (suc (suc k))
+    zero-below : (k : ℕ) → red p (g k) ≡ K p .𝟘 → g k ≡ 0
+    zero-below k z = sym (mod-eq-of-lt (small k)) ∙ red-zero-iff p (omega (arith, small k)) (g k) .0 z
 
-    zero-above : (k : ℕ) → g k ≡ 0 → f k ≡ K p .𝟘
-    zero-above k z = sym (same k) ∙ ap (red p) z
-
-    zero-below : (k : ℕ) → f k ≡ K p .𝟘 → g k ≡ 0
-    zero-below k z = sym (mod-eq-of-lt (array .small (k + 2))) ∙ red-zero-iff p (omega (arith, array .small (k + 2))) (g k) .0 (same k ∙ z)
+-- What that tells of the polynomial whose coefficients they are.
+pub tests-monomial : {p : ℕ} {f : ℕ → Residue p} {x : Polynomial} {r : Bool} → Coefficients p f x → TestsMonomial (x .coefficients) r → Settles (Monomial (K p) f) r
+tests-monomial {p} {r = r} has test = subst (λ f. Settles (Monomial (K p) f) r) (has .same) (test p (has .small))

@@ -1,8 +1,8 @@
 use mathlib.Core.Path.{sym, ap}
 use mathlib.Core.Bool.{cond}
 use borrow.Author.Tests.{eq-eqb, ne-eqb}
-use Rattle.determinant.proofs.one_if_nonzero.Statement.{statement}
-use Rattle.determinant.proofs.one_if_nonzero.Tie as tie
+use Rattle.polynomial.proofs.one_if_nonzero.Statement.{statement}
+use Rattle.polynomial.proofs.one_if_nonzero.Tie as tie
 
 returns : tie.Need-returns
 returns c = sym (ap (λ b. cond b 0 1) (eq-eqb (c .before .args .x) 0 (c .if1 .taken)))
