@@ -18,7 +18,7 @@ use Rattle.algebra.specs.OrderBasis.{Monomial}
 use Rattle.rules.specs.Claim.{Claim}
 use Rattle.rules.specs.Conditions.{degree-sum-of, first-place}
 use Rattle.rules.specs.Verdict.{Verdict, not-reduced, not-monomial, below-order, at-order, low-rank, pass-with, judge-claim}
-use Rattle.rules.specs.SearchLaws.{first-place-some}
+use Rattle.laws.specs.SearchLaws.{first-place-some}
 use Rattle.verdict.specs.Meant.{meant}
 use Rattle.layout.specs.Flat.{length-at, shift-at, cells}
 use Rattle.layout.specs.Settles.{Settles}

@@ -18,10 +18,10 @@ use Rattle.algebra.specs.PolyMatrix.{entries as series-entries}
 use Rattle.rules.specs.Claim.{Problem}
 use Rattle.rules.specs.Matrices.{matrix-P}
 use Rattle.rules.specs.Conditions.{leading-matrix, reduced, monomial-determinant, rank-matrix, rank-below}
-use Rattle.rules.specs.BoolLaws.{false-iff}
-use Rattle.rules.specs.ReducedLaws.{reduced-iff}
-use Rattle.rules.specs.DeterminantLaws.{monomial-determinant-iff}
-use Rattle.rules.specs.ProductLaws.{rank-below-iff}
+use Rattle.laws.specs.BoolLaws.{false-iff}
+use Rattle.laws.specs.ReducedLaws.{reduced-iff}
+use Rattle.laws.specs.DeterminantLaws.{monomial-determinant-iff}
+use Rattle.laws.specs.ProductLaws.{rank-below-iff}
 use Rattle.layout.specs.Flat.{cells}
 use Rattle.layout.specs.Holds.{padded-fewer}
 use Rattle.layout.specs.Settles.{Settles}

@@ -15,7 +15,7 @@ use lib.IntN.{pos, negsuc, _-ℤ_}
 use lib.ListN.{getD}
 use borrow.Author.Tests.{lt-ltb, le-ltb, le-leb, lt-leb, leb-true, leb-false}
 use Rattle.rules.specs.Reader.{Place, Refusal, refused, got, field, number-at, unless}
-use Rattle.rules.specs.ReaderLaws.{got-not-refused, field-short, field-failed, field-got, field-cases}
+use Rattle.laws.specs.ReaderLaws.{got-not-refused, field-short, field-failed, field-got, field-cases}
 use Rattle.rules.specs.Files.{two's-complement, coefficient-test, residue}
 use Rattle.cursor.specs.declared.Test.the-variants.{Last, Mark, Any, Size, Due, Shift, Residue}
 use Rattle.cursor.specs.declared.Test.{Test}

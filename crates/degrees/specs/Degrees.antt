@@ -13,8 +13,8 @@ use lib.IntN.{ℤ, pos, natAbs, _+ℤ_, _-ℤ_}
 use Rattle.algebra.specs.Integer.{natAbs-add}
 use Rattle.rules.specs.Conditions.{shifted-degree-of, larger, largest, plus, total, less, row-degree-of, degree-sum-of}
 use Rattle.rules.specs.Sizes.{most-length, most-shift}
-use Rattle.rules.specs.DegreeLaws.{total-none, total-less, shifted-is}
-use Rattle.rules.specs.Magnitudes.{natAbs-largest, natAbs-total}
+use Rattle.laws.specs.DegreeLaws.{total-none, total-less, shifted-is}
+use Rattle.laws.specs.Magnitudes.{natAbs-largest, natAbs-total}
 use Rattle.layout.specs.Flat.{square-place, length-at, shift-at}
 use Rattle.layout.specs.Holds.{Short}
 use Rattle.degrees.specs.Signed.{natAbs-minus}

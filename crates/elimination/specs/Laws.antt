@@ -24,7 +24,7 @@ use Rattle.algebra.specs.Det.{det}
 use Rattle.algebra.specs.Dependence.{Dependent}
 use Rattle.algebra.specs.Elimination.{dependent-iff-det-zero}
 use Rattle.rules.specs.Inverse.{InverseOf}
-use Rattle.rules.specs.InverseLaws.{inverse-exists}
+use Rattle.laws.specs.InverseLaws.{inverse-exists}
 use Rattle.field.specs.Laws.{remainder-below, red-of-sub, red-of-mul, red-of-inverse}
 use Rattle.elimination.specs.Steps.{Rest, rest-start, rest-exchange, rest-zero-column, rest-clear, rest-no-rows, rest-no-columns}
 use Rattle.elimination.specs.Lists.{kept-set}

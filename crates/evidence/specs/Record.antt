@@ -16,7 +16,7 @@ use Rattle.rules.specs.Evidence.{evidence-of}
 use Rattle.rules.specs.Writer.{bytes, write-each, write-all, write-CE}
 use Rattle.rules.specs.Table.{table, table-last}
 use Rattle.writer.specs.Appended.{Appended, appended-nothing, appended-both}
-use Rattle.rules.specs.ByteNumbers.{length-bytes}
+use Rattle.laws.specs.ByteNumbers.{length-bytes}
 
 module _ (b : Problem) (P : List (List (List ℕ))) where
   -- The number of row i and column j: the coefficient of P·F at the order.

@@ -8,7 +8,7 @@ use Prim.Native.Nat.{ℕ, _<_}
 use native.Mathlib.Nat.{mod-eq-of-lt}
 use Rattle.algebra.specs.Prime.{Prime}
 use Rattle.rules.specs.Inverse.{inverse, InverseOf}
-use Rattle.rules.specs.InverseLaws.{inverse-none-iff, inverse-some-iff}
+use Rattle.laws.specs.InverseLaws.{inverse-none-iff, inverse-some-iff}
 use Rattle.field.specs.declared.Inverse.{Inverse}
 use Rattle.field.specs.declared.Inverse.the-variants.{Of, None}
 

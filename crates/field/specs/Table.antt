@@ -12,7 +12,7 @@ use native.Mathlib.Omega.{arith}
 use lib.Dec.{T, eqb, ltb, eqb→eq, ltb→lt}
 use lib.ListN.{length, getD}
 use Rattle.rules.specs.Inverse.{InverseOf}
-use Rattle.rules.specs.BoolLaws.{and-iff}
+use Rattle.laws.specs.BoolLaws.{and-iff}
 
 -- The list holds the inverses modulo p of 1, 2, …, p − 1, in this order.
 pub record Inverses (p : ℕ) (l : List ℕ) : Type 0 where

@@ -6,11 +6,11 @@ use mathlib.Core.Bool.{true, false}
 use mathlib.Core.List.{List}
 use Prim.Native.Nat.{ℕ}
 use Rattle.rules.specs.Files.{read-problem, answer-reader, claim-for}
-use Rattle.rules.specs.BothFiles.{problem-refuses, answer-refuses, both-read}
-use Rattle.rules.specs.Ranges.{problem-valid}
-use Rattle.rules.specs.Valid.{ValidProblem}
+use Rattle.laws.specs.BothFiles.{problem-refuses, answer-refuses, both-read}
+use Rattle.laws.specs.Ranges.{problem-valid}
+use Rattle.laws.specs.Valid.{ValidProblem}
 use Rattle.rules.specs.Verdict.{unread, judge-claim, verdict}
-use Rattle.rules.specs.VerdictLaws.{verdict-of-claim, verdict-of-refusal}
+use Rattle.laws.specs.VerdictLaws.{verdict-of-claim, verdict-of-refusal}
 use Rattle.verdict.specs.Meant.{refusal-of}
 use Rattle.claim.specs.declared.Head.{Head}
 use Rattle.claim.specs.Claims.{problem-of, claim-of}

@@ -11,13 +11,13 @@ use lib.ListN.{length, take, drop, take-append-drop}
 use Rattle.rules.specs.Claim.{Problem}
 use Rattle.rules.specs.Reader.{got, front}
 use Rattle.rules.specs.Files.{basis-reader, read-problem, basis-for, read-basis}
-use Rattle.rules.specs.BothFiles.{problem-refuses, answer-refuses, both-read}
-use Rattle.rules.specs.Ranges.{problem-valid}
-use Rattle.rules.specs.Valid.{ValidProblem}
+use Rattle.laws.specs.BothFiles.{problem-refuses, answer-refuses, both-read}
+use Rattle.laws.specs.Ranges.{problem-valid}
+use Rattle.laws.specs.Valid.{ValidProblem}
 use Rattle.rules.specs.Verdict.{unread, no-room, written}
 use Rattle.rules.specs.Writer.{write-CE}
 use Rattle.rules.specs.Evidence.{evidence-of, evidence-size, make-evidence}
-use Rattle.rules.specs.EvidenceLaws.{length-evidence, evidence-unread, evidence-no-room, evidence-made}
+use Rattle.laws.specs.EvidenceLaws.{length-evidence, evidence-unread, evidence-no-room, evidence-made}
 use Rattle.verdict.specs.Meant.{refusal-of}
 use Rattle.claim.specs.declared.Head.{Head}
 use Rattle.claim.specs.Claims.{problem-of, basis-of}

@@ -28,10 +28,10 @@ use Rattle.rules.specs.Reader.{Place, got}
 use Rattle.rules.specs.Files.{read-claim}
 use Rattle.rules.specs.Verdict.{Verdict, passed, unread, not-reduced, not-monomial, below-order, at-order, low-rank, no-room, written, numbers, judge-claim}
 use Rattle.rules.specs.Verdict.{verdict}
-use Rattle.rules.specs.VerdictLaws.{verdict-of-claim}
-use Rattle.rules.specs.Ranges.{claim-valid}
-use Rattle.rules.specs.DegreeLaws.{largest-is, largest-above, largest-none, shifted-is}
-use Rattle.rules.specs.ReducedLaws.{no-degree-zero, entry-at-most, degree-sum-is}
+use Rattle.laws.specs.VerdictLaws.{verdict-of-claim}
+use Rattle.laws.specs.Ranges.{claim-valid}
+use Rattle.laws.specs.DegreeLaws.{largest-is, largest-above, largest-none, shifted-is}
+use Rattle.laws.specs.ReducedLaws.{no-degree-zero, entry-at-most, degree-sum-is}
 use Rattle.rules.specs.Run.{run-verdict}
 use Rattle.rules.specs.Requested.{lab}
 use Rattle.meaning.specs.Generating.{field-of, series-P}

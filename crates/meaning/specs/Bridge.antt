@@ -17,7 +17,7 @@ use Rattle.algebra.specs.Degree.{coefficient, coefficient-sum}
 use lib.IntN.{pos}
 use Rattle.rules.specs.Matrices.{polynomial}
 use Rattle.rules.specs.Table.{table, length-table, getD-table}
-use Rattle.rules.specs.SumLaws.{red-sum}
+use Rattle.laws.specs.SumLaws.{red-sum}
 use Rattle.meaning.specs.Plain.{times, row-times-column}
 
 module _ (p : ℕ) where

@@ -14,7 +14,7 @@ use native.Mathlib.Omega.{arith}
 use lib.ListN.{getD}
 use Rattle.algebra.specs.Count.{count, count-one}
 use Rattle.rules.specs.Conditions.{sum-below}
-use Rattle.rules.specs.SumLaws.{sum-below-constant}
+use Rattle.laws.specs.SumLaws.{sum-below-constant}
 
 -- The sum of f u over all lists u of m numbers below p.
 unfoldable pub sum-lists : (p m : ℕ) → (List ℕ → ℕ) → ℕ

@@ -37,11 +37,11 @@ use Rattle.rules.specs.Reader.{Place, Result, refused, got}
 use Rattle.rules.specs.Files.{read-claim}
 use Rattle.rules.specs.Drawn.{cut, cut-row, drawn-value, every-column-zero, Drawn, may-pass, turned-away, unread, too-large, first-too-large, judge-drawn-claim}
 use Rattle.rules.specs.Drawn.{judge-drawn}
-use Rattle.rules.specs.Valid.{Valid}
-use Rattle.rules.specs.Ranges.{claim-valid}
-use Rattle.rules.specs.BoolLaws.{true-iff, false-iff, not-iff, not-false-iff, eqb-iff, cond-cases}
-use Rattle.rules.specs.SearchLaws.{is-zero-iff, some-below-iff, some-below-false-iff}
-use Rattle.rules.specs.SumLaws.{red-sum}
+use Rattle.laws.specs.Valid.{Valid}
+use Rattle.laws.specs.Ranges.{claim-valid}
+use Rattle.laws.specs.BoolLaws.{true-iff, false-iff, not-iff, not-false-iff, eqb-iff, cond-cases}
+use Rattle.laws.specs.SearchLaws.{is-zero-iff, some-below-iff, some-below-false-iff}
+use Rattle.laws.specs.SumLaws.{red-sum}
 use Rattle.meaning.specs.Plain.{row-times-column, row-P, column-F}
 use Rattle.meaning.specs.Generating.{field-of}
 use Rattle.meaning.specs.Verdicts.{product-number, LowFault, OrderFault, Nowhere, red-product}

@@ -31,8 +31,8 @@ use Rattle.algebra.specs.Generation.{Generated}
 use Rattle.algebra.specs.TwoBases.{same-degrees}
 use Rattle.rules.specs.Claim.{Problem, Answer, Claim}
 use Rattle.rules.specs.Matrices.{shift, at, polynomial, matrix-P}
-use Rattle.rules.specs.Ranges.{claim-got, claim-valid}
-use Rattle.rules.specs.ReducedLaws.{degrees, entries-at-most, leading-by-degrees, reduced-iff, reduced-degrees}
+use Rattle.laws.specs.Ranges.{claim-got, claim-valid}
+use Rattle.laws.specs.ReducedLaws.{degrees, entries-at-most, leading-by-degrees, reduced-iff, reduced-degrees}
 use Rattle.meaning.specs.Plain.{row-P, VanishesBelowOrders, Plain}
 use Rattle.meaning.specs.Bridge.{red-row-times-column}
 use Rattle.meaning.specs.Generating.{field-of, series-P, zero-below-iff, lists-iff-polynomials}

@@ -20,12 +20,12 @@ use Rattle.algebra.specs.OrderBasis.{Vanishes, order-basis}
 use Rattle.rules.specs.Claim.{Claim}
 use Rattle.rules.specs.Matrices.{order, matrix-F, matrix-P, matrix-C, product}
 use Rattle.rules.specs.Conditions.{degree-sum}
-use Rattle.rules.specs.Valid.{Valid}
-use Rattle.rules.specs.Ranges.{claim-valid}
+use Rattle.laws.specs.Valid.{Valid}
+use Rattle.laws.specs.Ranges.{claim-valid}
 use Rattle.rules.specs.Verdict.{passed, judge-claim}
-use Rattle.rules.specs.VerdictLaws.{verdict-of-claim}
-use Rattle.rules.specs.ReducedLaws.{reduced-iff}
-use Rattle.rules.specs.DeterminantLaws.{degree-sum-exponent}
+use Rattle.laws.specs.VerdictLaws.{verdict-of-claim}
+use Rattle.laws.specs.ReducedLaws.{reduced-iff}
+use Rattle.laws.specs.DeterminantLaws.{degree-sum-exponent}
 use Rattle.meaning.specs.Plain.{row-P, Generates, Plain, PassMeansPlain}
 use Rattle.meaning.specs.Generating.{field-of, series-F, series-P, zero-below-iff, lists-iff-polynomials}
 use Rattle.meaning.specs.Verdicts.{IsMonomial, SomeMonomial, FullRank, Says, product-number, red-product, judge-claim-meaning}

@@ -24,11 +24,11 @@ use Rattle.rules.specs.Conditions.{leading-matrix, reduced, determinant, monomi
 use Rattle.rules.specs.Conditions.{rank-below}
 use Rattle.rules.specs.Verdict.{Verdict, passed, unread, not-reduced, not-monomial, below-order, at-order, low-rank, no-room, written, pass-with, judge-claim}
 use Rattle.rules.specs.Verdict.{by-product, by-rank}
-use Rattle.rules.specs.BoolLaws.{false-iff}
-use Rattle.rules.specs.SearchLaws.{first-place-none, first-place-some}
-use Rattle.rules.specs.ReducedLaws.{reduced-iff}
-use Rattle.rules.specs.DeterminantLaws.{monomial-determinant-iff, degree-sum-exponent}
-use Rattle.rules.specs.ProductLaws.{low-fault-iff, order-fault-iff, rank-below-iff}
+use Rattle.laws.specs.BoolLaws.{false-iff}
+use Rattle.laws.specs.SearchLaws.{first-place-none, first-place-some}
+use Rattle.laws.specs.ReducedLaws.{reduced-iff}
+use Rattle.laws.specs.DeterminantLaws.{monomial-determinant-iff, degree-sum-exponent}
+use Rattle.laws.specs.ProductLaws.{low-fault-iff, order-fault-iff, rank-below-iff}
 use Rattle.meaning.specs.Plain.{row-times-column, row-P, column-F}
 use Rattle.meaning.specs.Bridge.{red-row-times-column}
 use Rattle.meaning.specs.Generating.{field-of}

@@ -28,13 +28,13 @@ use Rattle.rules.specs.Conditions.{sum-below}
 use Rattle.rules.specs.Verdict.{Verdict, passed, unread, not-reduced, not-monomial, below-order, at-order, low-rank, no-room, written, numbers, verdict}
 use Rattle.rules.specs.Evidence.{evidence-size}
 use Rattle.rules.specs.Part.{Part, column-size, column-start, claim-part, rest-of-file, pointed-at, part-bytes}
-use Rattle.rules.specs.Ranges.{problem-valid, claim-got}
-use Rattle.rules.specs.RefusalPlaces.{claim-refused}
-use Rattle.rules.specs.VerdictLaws.{verdict-of-refusal, code-of-refusal, Judged, verdict-judged}
-use Rattle.rules.specs.PartLaws.{pointed-refused, pointed-claim, front-of-answer, pointed-front, refused-start, pointed-within}
+use Rattle.laws.specs.Ranges.{problem-valid, claim-got}
+use Rattle.laws.specs.RefusalPlaces.{claim-refused}
+use Rattle.laws.specs.VerdictLaws.{verdict-of-refusal, code-of-refusal, Judged, verdict-judged}
+use Rattle.laws.specs.PartLaws.{pointed-refused, pointed-claim, front-of-answer, pointed-front, refused-start, pointed-within}
 use Rattle.layout.specs.Holds.{Ordered}
-use Rattle.rules.specs.SumLaws.{sum-below-cong}
-use Rattle.rules.specs.WriterLaws.{rectangle-most}
+use Rattle.laws.specs.SumLaws.{sum-below-cong}
+use Rattle.laws.specs.WriterLaws.{rectangle-most}
 use Rattle.reader.specs.declared.ReadProblem.{ReadProblem}
 use Rattle.reader.specs.Arrays.{list-at}
 use Rattle.reader.specs.Values.{problem-value}

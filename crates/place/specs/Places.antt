@@ -8,7 +8,7 @@ use mathlib.Core.Bool.{cond}
 use Prim.Native.Nat.{ℕ, _+_, _<_}
 use lib.Dec.{eqb}
 use Rattle.rules.specs.Reader.{Place, Refusal, Result, refused, got}
-use Rattle.rules.specs.ReaderLaws.{got-not-refused}
+use Rattle.laws.specs.ReaderLaws.{got-not-refused}
 use Rattle.place.specs.declared.Place.{Place as Spot}
 use Rattle.place.specs.declared.Stop.{Stop}
 use Rattle.place.specs.declared.Field.{Field}

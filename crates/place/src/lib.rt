@@ -2,7 +2,7 @@
 ghost use mathlib.Core.Path.{_≡_};
 ghost use Prim.Native.Nat.{_+_, _^_, _<_};
 ghost use Rattle.rules.specs.Reader.{front as front-of};
-ghost use Rattle.rules.specs.ReaderLaws.{moved};
+ghost use Rattle.laws.specs.ReaderLaws.{moved};
 ghost use Rattle.place.specs.Places.{place, opened-at, after-of, closed-of, finish-of, Numbered};
 ghost use lib.ListN.{length};
 

@@ -14,7 +14,7 @@ use borrow.Author.Tests.{lt-ltb, le-ltb}
 use lib.Dec.{ltb}
 use Rattle.algebra.specs.Prime.{Prime, prime-of-no-small-divisor}
 use Rattle.rules.specs.Files.{is-prime}
-use Rattle.rules.specs.FieldTests.{is-prime-iff}
+use Rattle.laws.specs.FieldTests.{is-prime-iff}
 use Rattle.primality.specs.Sifted.{NoPrime, Sifted, range-both, prime-of-range}
 
 -- The rule passes a prime …

@@ -21,7 +21,7 @@ use Rattle.rules.specs.Conditions.{sum-below}
 use Rattle.rules.specs.Sizes.{largest-prime, most-rows, most-order, most-length}
 use Rattle.layout.specs.Flat.{entry-place, column-place, square-place, length-at, cell, column-cell, cells, column-cells, cell-at, column-cell-at, column-cell-past}
 use Rattle.layout.specs.Holds.{Each, Padded}
-use Rattle.rules.specs.SumLaws.{sum-below-cong, sum-below-last, sum-window, red-sum}
+use Rattle.laws.specs.SumLaws.{sum-below-cong, sum-below-last, sum-window, red-sum}
 
 -- The coefficient at power k of the entry of P·F in row i and column j, modulo p.
 unfoldable pub flat-product : (p : ℕ) → List ℕ → List ℕ → ℕ → ℕ → ℕ → ℕ → Residue p

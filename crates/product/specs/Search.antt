@@ -10,7 +10,7 @@ use Prim.Native.Nat.{ℕ, zero, suc, _≤_, _<_, suc-le-suc}
 use native.Mathlib.Nat.{zero-lt-suc}
 use native.Mathlib.Omega.{arith}
 use Rattle.rules.specs.Conditions.{some-below, first-place}
-use Rattle.rules.specs.SearchLaws.{some-below-iff, some-below-false-iff, first-place-none, first-place-some}
+use Rattle.laws.specs.SearchLaws.{some-below-iff, some-below-false-iff, first-place-none, first-place-some}
 
 -- All numbers below n fail.
 abbrev pub Fails : ℕ → (ℕ → Bool) → Type 0

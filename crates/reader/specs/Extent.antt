@@ -9,9 +9,9 @@ use Rattle.rules.specs.Sizes.{most-rows}
 use Rattle.rules.specs.Claim.{Problem}
 use Rattle.rules.specs.Reader.{Place, Refusal, refused, front}
 use Rattle.rules.specs.Files.{answer-reader, basis-reader, read-problem}
-use Rattle.rules.specs.ReaderLaws.{Refusing}
-use Rattle.rules.specs.Soundness.{sound-problem, sound-basis-sized, sound-answer-sized}
-use Rattle.rules.specs.Lengths.{longest-problem-is, longest-basis-is, longest-answer-is}
+use Rattle.laws.specs.ReaderLaws.{Refusing}
+use Rattle.laws.specs.Soundness.{sound-problem, sound-basis-sized, sound-answer-sized}
+use Rattle.laws.specs.Lengths.{longest-problem-is, longest-basis-is, longest-answer-is}
 
 -- Both numbers of a place that are offsets fit 32 bits.
 pub record Narrow (p : Place) : Type 0 where

@@ -11,8 +11,8 @@ use native.Mathlib.Omega.{arith}
 use Rattle.rules.specs.Claim.{Problem, Answer}
 use Rattle.rules.specs.Reader.{Place, Result, refused, got, front}
 use Rattle.rules.specs.Files.{read-problem, answer-reader, basis-reader}
-use Rattle.rules.specs.Valid.{ValidProblem, ValidBasis, ValidAnswer}
-use Rattle.rules.specs.Ranges.{problem-valid, answer-valid, basis-valid}
+use Rattle.laws.specs.Valid.{ValidProblem, ValidBasis, ValidAnswer}
+use Rattle.laws.specs.Ranges.{problem-valid, answer-valid, basis-valid}
 use Rattle.verdict.specs.Meant.{refusal-of}
 use Rattle.layout.specs.Holds.{Each}
 use Rattle.claim.specs.declared.Head.{Head}

@@ -19,8 +19,8 @@ use lib.ListN.{length}
 use Rattle.rules.specs.Sizes.{most-rows, most-length}
 use Rattle.rules.specs.Reader.{Place, Refusal, Result, refused, got, Reader, next, _>>=_, give, field, mark, unless, each}
 use Rattle.rules.specs.Files.{PE-mark, PE, one-to, due, coefficient-test}
-use Rattle.rules.specs.ReaderLaws.{opening, closed, field-got, Forward, Sound, sound-next, sound-each}
-use Rattle.rules.specs.Soundness.{sound-due, sound-count}
+use Rattle.laws.specs.ReaderLaws.{opening, closed, field-got, Forward, Sound, sound-next, sound-each}
+use Rattle.laws.specs.Soundness.{sound-due, sound-count}
 use Rattle.place.specs.declared.Place.{Place as Spot}
 use Rattle.place.specs.declared.Stop.{Stop}
 use Rattle.place.specs.declared.Field.{Field}

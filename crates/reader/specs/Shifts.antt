@@ -8,8 +8,8 @@ use native.Mathlib.Omega.{arith}
 use lib.IntN.{ℤ}
 use Rattle.rules.specs.Reader.{Place, Result, refused, got, next, field, unless}
 use Rattle.rules.specs.Files.{shift-in-size, two's-complement, shift-reader}
-use Rattle.rules.specs.ReaderLaws.{field-got}
-use Rattle.rules.specs.ByteNumbers.{AllBytes, number-at-below}
+use Rattle.laws.specs.ReaderLaws.{field-got}
+use Rattle.laws.specs.ByteNumbers.{AllBytes, number-at-below}
 use Rattle.place.specs.declared.Place.{Place as Spot}
 use Rattle.place.specs.declared.Stop.{Stop}
 use Rattle.place.specs.declared.Field.{Field}

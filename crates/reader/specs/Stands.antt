@@ -16,7 +16,7 @@ use Rattle.rules.specs.Sizes.{most-rows, most-order, most-shift, most-length}
 use Rattle.rules.specs.Claim.{Problem}
 use Rattle.rules.specs.Matrices.{order, shift, at}
 use Rattle.rules.specs.Table.{table-ext}
-use Rattle.rules.specs.Valid.{ValidProblem, ValidBasis}
+use Rattle.laws.specs.Valid.{ValidProblem, ValidBasis}
 use Rattle.layout.specs.Flat.{square-place, length-at, shift-at, cell, column-cell}
 use Rattle.layout.specs.Holds.{Each, Padded}
 use Rattle.claim.specs.Claims.{orders-of, shifts-of, columns-of, problem-of, basis-of, constants-of}

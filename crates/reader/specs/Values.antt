@@ -20,7 +20,7 @@ use Rattle.rules.specs.Sizes.{most-rows}
 use Rattle.rules.specs.Claim.{Problem, Answer}
 use Rattle.rules.specs.Reader.{Place, Refusal, Result, refused, got, Reader, next, _>>=_, each, end, front}
 use Rattle.rules.specs.Files.{PR, OR, SH, FC, CE, entries-reader, problem-reader, answer-reader, basis-reader, read-problem}
-use Rattle.rules.specs.ReaderLaws.{next-cong}
+use Rattle.laws.specs.ReaderLaws.{next-cong}
 use Rattle.verdict.specs.declared.Refusal.{Refusal as Refused}
 use Rattle.layout.specs.Flat.{square, entry-coefficients, column-coefficients}
 use Rattle.claim.specs.declared.Head.{Head}

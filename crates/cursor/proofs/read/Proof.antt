@@ -7,7 +7,7 @@ use lib.ListN.{length}
 use borrow.Author.Needs.{needs}
 use borrow.Author.Tests.{not-true, not-false, leb-true, leb-false}
 use Rattle.rules.specs.Reader.{Place, refused, got, number-at}
-use Rattle.rules.specs.ReaderLaws.{moved, field-short, field-failed, field-passed}
+use Rattle.laws.specs.ReaderLaws.{moved, field-short, field-failed, field-passed}
 use Rattle.place.specs.Places.{place}
 use Rattle.cursor.specs.Tests.{width-of, code-of, Width}
 use Rattle.cursor.specs.Fields.{width-is}

@@ -10,7 +10,7 @@ use mir.Val.{toZ}
 use Prim.Native.Nat.{_-_}
 use Rattle.rules.specs.Conditions.{shifted-degree-of}
 use Rattle.rules.specs.Sizes.{most-length, most-shift}
-use Rattle.rules.specs.DegreeLaws.{shifted-zero, shifted-some}
+use Rattle.laws.specs.DegreeLaws.{shifted-zero, shifted-some}
 use Rattle.degrees.proofs.Signed.{back, small-fits}
 use Rattle.degrees.proofs.shifted_degree.Statement.{statement}
 use Rattle.degrees.proofs.shifted_degree.Tie as tie

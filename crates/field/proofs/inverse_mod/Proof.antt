@@ -1,7 +1,7 @@
 -- `field::inverse_mod` meets its contract: 0 has no inverse, and what inverts any other number is its inverse. Assumes nothing.
 use mathlib.Core.Path.{sym, _∙_}
 use native.Mathlib.Nat.{mod-eq-of-lt, pos-of-ne-zero}
-use Rattle.rules.specs.InverseLaws.{inverse-none-iff, inverse-some-iff}
+use Rattle.laws.specs.InverseLaws.{inverse-none-iff, inverse-some-iff}
 use Rattle.field.proofs.inverse_mod.Statement.{statement}
 use Rattle.field.proofs.inverse_mod.Tie as tie
 

@@ -1,7 +1,7 @@
 use borrow.Author.Needs.{needs}
 use native.Mathlib.Omega.{arith}
 use Rattle.rules.specs.Sizes.{most-rows, most-order}
-use Rattle.rules.specs.WriterLaws.{rectangle-most}
+use Rattle.laws.specs.WriterLaws.{rectangle-most}
 use Rattle.part.proofs.column_bytes.Statement.{statement}
 use Rattle.part.proofs.column_bytes.Tie as tie
 

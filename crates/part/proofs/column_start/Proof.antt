@@ -6,9 +6,9 @@ use lib.ListN.{getD}
 use Rattle.rules.specs.Conditions.{sum-below}
 use Rattle.rules.specs.RecordBytes.{head-bytes, column-bytes}
 use Rattle.rules.specs.Sizes.{most-rows, most-order}
-use Rattle.rules.specs.Soundness.{longest-FC}
-use Rattle.rules.specs.SumLaws.{sum-below-last}
-use Rattle.rules.specs.WriterLaws.{rectangle-most}
+use Rattle.laws.specs.Soundness.{longest-FC}
+use Rattle.laws.specs.SumLaws.{sum-below-last}
+use Rattle.laws.specs.WriterLaws.{rectangle-most}
 use Rattle.part.proofs.column_start.Statement.{statement}
 use Rattle.part.proofs.column_start.Tie as tie
 use Rattle.part.proofs.column_bytes.Reads as column-bytes-reads

@@ -5,7 +5,7 @@ use mathlib.Core.Bool.{cond}
 use lib.Dec.{eqb}
 use lib.ListN.{length}
 use Rattle.rules.specs.Part.{Part}
-use Rattle.rules.specs.PartLaws.{pointed-within}
+use Rattle.laws.specs.PartLaws.{pointed-within}
 use Rattle.part.specs.Parts.{PartIn}
 use Rattle.part.proofs.pointed_at.Statement.{statement}
 use Rattle.part.proofs.pointed_at.Tie as tie

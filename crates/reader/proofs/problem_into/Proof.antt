@@ -9,8 +9,8 @@ use borrow.Author.Needs.{needs}
 use Rattle.rules.specs.Sizes.{most-rows}
 use Rattle.rules.specs.Reader.{Place, refused, got, front}
 use Rattle.rules.specs.Files.{PR, read-problem}
-use Rattle.rules.specs.ReaderLaws.{Forward}
-use Rattle.rules.specs.Soundness.{InSize, sound-PR}
+use Rattle.laws.specs.ReaderLaws.{Forward}
+use Rattle.laws.specs.Soundness.{InSize, sound-PR}
 use Rattle.place.specs.Places.{place, refusal}
 use Rattle.layout.specs.Flat.{column-coefficients}
 use Rattle.reader.specs.declared.ReadProblem.{ReadProblem}

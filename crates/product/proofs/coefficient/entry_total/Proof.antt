@@ -5,7 +5,7 @@ use native.Mathlib.Omega.{arith}
 use Prim.Native.Nat.{_*_, _-_, _≤_, _<_}
 use Rattle.rules.specs.Conditions.{sum-below}
 use Rattle.rules.specs.Sizes.{most-rows, most-length}
-use Rattle.rules.specs.SumLaws.{sum-below-last}
+use Rattle.laws.specs.SumLaws.{sum-below-last}
 use Rattle.product.specs.Total.{Summed, summed-more, within-more}
 use Rattle.product.specs.Product.{pair-number, product-number, row-products}
 use Rattle.product.proofs.coefficient.entry_total.Statement.{statement}

@@ -9,7 +9,7 @@ use borrow.Author.Tests.{not-true, not-false}
 use Rattle.rules.specs.Sizes.{most-rows}
 use Rattle.rules.specs.Reader.{got}
 use Rattle.rules.specs.Files.{CE, entries-reader}
-use Rattle.rules.specs.Soundness.{sound-entries}
+use Rattle.laws.specs.Soundness.{sound-entries}
 use Rattle.reader.specs.Values.{answer-parts, answer-parts-refused}
 use Rattle.reader.specs.Records.{then-refused, then-given, refused-into}
 use Rattle.reader.specs.Flat.{entries-into, evidence-into, answer-into}

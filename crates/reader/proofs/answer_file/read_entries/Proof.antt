@@ -9,8 +9,8 @@ use borrow.Author.Needs.{needs}
 use Rattle.rules.specs.Sizes.{most-rows}
 use Rattle.rules.specs.Reader.{each}
 use Rattle.rules.specs.Files.{PE, entries-reader}
-use Rattle.rules.specs.ReaderLaws.{sound-each}
-use Rattle.rules.specs.Soundness.{sound-PE}
+use Rattle.laws.specs.ReaderLaws.{sound-each}
+use Rattle.laws.specs.Soundness.{sound-PE}
 use Rattle.reader.specs.Records.{stored-forward}
 use Rattle.reader.specs.Flat.{row-into}
 use Rattle.reader.specs.Storing.{Kept, began, stopped, went-on, ended, going-off, going-on}

@@ -8,8 +8,8 @@ use borrow.Author.Needs.{needs}
 use Rattle.rules.specs.Sizes.{most-rows, most-length}
 use Rattle.rules.specs.Reader.{each, mark, field}
 use Rattle.rules.specs.Files.{PE-mark, PE, coefficient-test}
-use Rattle.rules.specs.ReaderLaws.{opening, sound-each}
-use Rattle.rules.specs.Soundness.{sound-coefficient}
+use Rattle.laws.specs.ReaderLaws.{opening, sound-each}
+use Rattle.laws.specs.Soundness.{sound-coefficient}
 use Rattle.layout.specs.Flat.{square-place, entry-place}
 use Rattle.reader.specs.Flat.{put-entry, run-into}
 use Rattle.reader.specs.Storing.{into}

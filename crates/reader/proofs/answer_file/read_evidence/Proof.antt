@@ -6,8 +6,8 @@ use borrow.Author.Needs.{needs}
 use Rattle.rules.specs.Sizes.{most-rows}
 use Rattle.rules.specs.Reader.{mark}
 use Rattle.rules.specs.Files.{CE-mark, CE}
-use Rattle.rules.specs.ReaderLaws.{opening}
-use Rattle.rules.specs.Soundness.{sound-row}
+use Rattle.laws.specs.ReaderLaws.{opening}
+use Rattle.laws.specs.Soundness.{sound-row}
 use Rattle.reader.specs.Flat.{evidence-into}
 use Rattle.reader.specs.Storing.{into}
 use Rattle.reader.specs.Records.{marked, closed-into, list-numbered, refuses, gives, record-refused, record-given, refused-into, field-number}

@@ -6,7 +6,7 @@ use native.Mathlib.Omega.{arith}
 use lib.ListN.{length}
 use borrow.Author.Needs.{needs}
 use Rattle.rules.specs.Files.{PE}
-use Rattle.rules.specs.Soundness.{sound-PE}
+use Rattle.laws.specs.Soundness.{sound-PE}
 use Rattle.reader.specs.Records.{stored-forward}
 use Rattle.reader.specs.Flat.{put-entry}
 use Rattle.reader.specs.Storing.{Kept, began, stopped, went-on, ended, going-off, going-on}

@@ -9,8 +9,8 @@ use borrow.Author.Needs.{needs}
 use Rattle.rules.specs.Sizes.{most-rows, most-order}
 use Rattle.rules.specs.Reader.{got, each}
 use Rattle.rules.specs.Files.{OR, SH, FC}
-use Rattle.rules.specs.ReaderLaws.{Forward, Listed}
-use Rattle.rules.specs.Soundness.{sound-OR, sound-SH, listed-all}
+use Rattle.laws.specs.ReaderLaws.{Forward, Listed}
+use Rattle.laws.specs.Soundness.{sound-OR, sound-SH, listed-all}
 use Rattle.reader.specs.Values.{body-reader}
 use Rattle.reader.specs.Records.{then-refused, then-given, refused-into}
 use Rattle.reader.specs.Arrays.{list-at, filled-length}

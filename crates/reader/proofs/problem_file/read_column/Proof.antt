@@ -7,8 +7,8 @@ use borrow.Author.Needs.{needs}
 use Rattle.rules.specs.Sizes.{most-rows, most-order}
 use Rattle.rules.specs.Reader.{each, mark, field}
 use Rattle.rules.specs.Files.{FC-mark, FC, due, residue}
-use Rattle.rules.specs.ReaderLaws.{opening}
-use Rattle.rules.specs.Soundness.{sound-row}
+use Rattle.laws.specs.ReaderLaws.{opening}
+use Rattle.laws.specs.Soundness.{sound-row}
 use Rattle.layout.specs.Flat.{column-place}
 use Rattle.reader.specs.Flat.{put-column, block-into}
 use Rattle.reader.specs.Storing.{into}

@@ -6,7 +6,7 @@ use native.Mathlib.Omega.{arith}
 use lib.ListN.{length, getD}
 use borrow.Author.Needs.{needs}
 use Rattle.rules.specs.Files.{FC}
-use Rattle.rules.specs.Soundness.{sound-FC}
+use Rattle.laws.specs.Soundness.{sound-FC}
 use Rattle.reader.specs.Records.{stored-forward}
 use Rattle.reader.specs.Flat.{put-column}
 use Rattle.reader.specs.Storing.{Kept, began, stopped, went-on, ended, going-off, going-on}

@@ -4,7 +4,7 @@ use native.Mathlib.Omega.{arith}
 use borrow.Author.Needs.{needs}
 use Rattle.rules.specs.Reader.{mark, field, unless}
 use Rattle.rules.specs.Files.{PR-mark, PR, allowed-prime}
-use Rattle.rules.specs.ReaderLaws.{opening}
+use Rattle.laws.specs.ReaderLaws.{opening}
 use Rattle.reader.specs.Records.{marked, sizes-reader, refuses, gives, record-refused, record-given, field-number}
 use Rattle.place.specs.Places.{place, taken}
 use Rattle.reader.proofs.problem_file.read_head.Statement.{statement}

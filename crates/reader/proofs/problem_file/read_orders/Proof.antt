@@ -5,8 +5,8 @@ use borrow.Author.Needs.{needs}
 use Rattle.rules.specs.Sizes.{most-order}
 use Rattle.rules.specs.Reader.{mark}
 use Rattle.rules.specs.Files.{OR-mark, OR}
-use Rattle.rules.specs.ReaderLaws.{opening}
-use Rattle.rules.specs.Soundness.{sound-size}
+use Rattle.laws.specs.ReaderLaws.{opening}
+use Rattle.laws.specs.Soundness.{sound-size}
 use Rattle.reader.specs.Flat.{list-into}
 use Rattle.reader.specs.Storing.{into}
 use Rattle.reader.specs.Records.{marked, closed-into, list-numbered, refuses, gives, record-refused, record-given, refused-into, field-number}

@@ -5,8 +5,8 @@ use lib.IntN.{pos}
 use borrow.Author.Needs.{needs}
 use Rattle.rules.specs.Reader.{mark}
 use Rattle.rules.specs.Files.{SH-mark, SH}
-use Rattle.rules.specs.ReaderLaws.{opening}
-use Rattle.rules.specs.Soundness.{sound-shift}
+use Rattle.laws.specs.ReaderLaws.{opening}
+use Rattle.laws.specs.Soundness.{sound-shift}
 use Rattle.reader.specs.Flat.{shifts-into}
 use Rattle.reader.specs.Storing.{into}
 use Rattle.reader.specs.Records.{marked, closed-into, list-numbered, refuses, gives, record-refused, record-given, refused-into, field-number}
