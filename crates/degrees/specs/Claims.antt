@@ -40,7 +40,8 @@ module _ (head : Head) (f lengths entries : List ℕ) where
       (λ j. shifted-degree-of (length (at (basis-of (head .m) lengths entries) i j)) (shift (problem-of head f) j))
       (λ j h. ap₂ shifted-degree-of (holds-lengths head f lengths entries i j hi h) (holds-shifts head f j h))
 
-  pub degree-sum-rules : degree-sum-of (head .m) (length-at lengths) (shift-at (head .shifts)) ≡ degree-sum (problem-of head f) (basis-of (head .m) lengths entries)
+  pub degree-sum-rules : degree-sum-of (head .m) (length-at lengths) (shift-at (head .shifts)) ≡ degree-sum (problem-of head f)
+      (basis-of (head .m) lengths entries)
   unfolding degree-sum-of
   degree-sum-rules =
       ap₂ less

@@ -77,7 +77,8 @@ at-most h l q s m small pos le e =
     (omega (arith, high-half h l q m small e, mul-le-mul-right (m / 65536) le, mul-comm (m / 65536) s))
 
 -- Where the computation gives more than that, q does not divide the number.
-pub not-divided : (h l q v s limit : ℕ) → l < 65536 → h < 65536 → q * v % 65536 ≡ 1 → 0 < s → s ≤ q → h / s ≤ limit → limit < high-part h l q v → ¬ (q ∣ 65536 * h + l)
+pub not-divided : (h l q v s limit : ℕ) → l < 65536 → h < 65536 → q * v % 65536 ≡ 1 → 0 < s → s ≤ q → h / s ≤ limit → limit < high-part h l q v → ¬
+    (q ∣ 65536 * h + l)
 not-divided h l q v s limit small-l small-h inverse pos le bound more divides =
     omega (arith, at-most h l q s ((65536 * h + l) / q) small-l pos le whole, high-quotient h l q v ((65536 * h + l) / q) inverse small-l small-h whole)
   where

@@ -46,7 +46,10 @@ clear-empty = record { none = λ i lo hi. absurd (omega arith) }
 
 -- A part with one number more, which does not divide p.
 pub clear-more : {q : List ℕ} {a e f p : ℕ} → f ≡ e + 1 → ¬ (getD q e 0 ∣ p) → Clear q a e p → Clear q a f p
-clear-more {q} {a} {e} one not before = record { none = λ i lo hi h. by-cases (ℕ-discrete i e) (λ same. not (rw same at h)) (λ ne. before .none i lo (omega arith) h) }
+clear-more {q} {a} {e} one not before = record {
+  none = λ i lo hi h. by-cases (ℕ-discrete i e) (λ same. not (rw same at h))
+      (λ ne. before .none i lo (omega arith) h);
+}
 
 -- Two parts, the second from the first one's end on.
 pub clear-both : {q : List ℕ} {a b e p : ℕ} → Clear q a b p → Clear q b e p → Clear q a e p
@@ -58,7 +61,8 @@ left-open q v a h l limit zero = 0
 left-open q v a h l limit (suc n) = left-open q v a h l limit n + cond (leb (high-part h l (getD q (a + n) 0) (getD v (a + n) 0)) limit) 1 0
 
 -- One number more, of which x is computed.
-pub open-more : (q v : List ℕ) (a h l limit n count x one : ℕ) → count ≡ left-open q v a h l limit n → x ≡ high-part h l (getD q (a + n) 0) (getD v (a + n) 0) → one ≡ cond (leb x limit) 1 0 → count + one ≡ left-open q v a h l limit (n + 1)
+pub open-more : (q v : List ℕ) (a h l limit n count x one : ℕ) → count ≡ left-open q v a h l limit n → x ≡ high-part h l (getD q (a + n) 0) (getD v (a + n) 0)
+    → one ≡ cond (leb x limit) 1 0 → count + one ≡ left-open q v a h l limit (n + 1)
 unfolding left-open
 open-more q v a h l limit n count x one before computed counted =
     ap₂ (λ y z. y + z) before (counted ∙ ap (λ y. cond (leb y limit) 1 0) computed) ∙ sym (ap (left-open q v a h l limit) (add-one n))
@@ -68,12 +72,14 @@ uncounted : (x limit : ℕ) → cond {A = ℕ} (leb x limit) 1 0 ≡ 0 → limit
 uncounted x limit e = by-cases (decLt limit x) (λ more. more) (λ not. absurd (omega (arith, e, ap (λ b. cond {A = ℕ} b 1 0) (le-leb x limit (omega arith)))))
 
 -- Where none is left open and the limit is at least the high half of p divided by the first number, no one divides p.
-pub none-open : {q v : List ℕ} → Table q v → (a h l limit n count : ℕ) → l < 65536 → h < 65536 → a + n ≤ length q → h / getD q a 0 ≤ limit → count ≡ left-open q v a h l limit n → count ≡ 0 → Clear q a (a + n) (65536 * h + l)
+pub none-open : {q v : List ℕ} → Table q v → (a h l limit n count : ℕ) → l < 65536 → h < 65536 → a + n ≤ length q → h / getD q a 0 ≤ limit → count
+    ≡ left-open q v a h l limit n → count ≡ 0 → Clear q a (a + n) (65536 * h + l)
 unfolding left-open
 none-open table a h l limit zero count small-l small-h inside bound counted none = record { none = λ i lo hi. absurd (omega arith) }
 none-open {q} {v} table a h l limit (suc n) count small-l small-h inside bound counted none =
     clear-more (omega arith)
-    (not-divided h l (getD q (a + n) 0) (getD v (a + n) 0) (getD q a 0) limit small-l small-h (table .inverse (a + n) (omega arith)) (table-positive table .at a (omega arith)) (table .rising a (a + n) (omega arith) (omega arith)) bound (uncounted _ limit (omega (arith, sum))))
+    (not-divided h l (getD q (a + n) 0) (getD v (a + n) 0) (getD q a 0) limit small-l small-h (table .inverse (a + n) (omega arith))
+    (table-positive table .at a (omega arith)) (table .rising a (a + n) (omega arith) (omega arith)) bound (uncounted _ limit (omega (arith, sum))))
     (none-open table a h l limit n _ small-l small-h (omega arith) bound refl (omega (arith, sum)))
   where
     sum : left-open q v a h l limit n + cond (leb (high-part h l (getD q (a + n) 0) (getD v (a + n) 0)) limit) 1 0 ≡ 0

@@ -63,7 +63,8 @@ module _ (p : ℕ) where
       positive = positive-of-row p z (so-far .row-below)
 
       taken : red p w ≡ red p (getD z j 0) ⊕ ⊖ (red p f ⊗ red p (getD y j 0))
-      taken = red-of-sub p (getD z j 0) product w (le-of-lt (remainder-below p _ product positive ep)) ew ∙ ap (λ a. red p (getD z j 0) ⊕ ⊖ a) (red-of-mul p f (getD y j 0) product ep)
+      taken = red-of-sub p (getD z j 0) product w (le-of-lt (remainder-below p _ product positive ep)) ew ∙ ap (λ a. red p (getD z j 0) ⊕ ⊖ a)
+          (red-of-mul p f (getD y j 0) product ep)
 
   -- At first no row is cleared …
   pub cleared-start : (a : List (List ℕ)) (v r c n : ℕ) → Below p a → Cleared p a v r c (r + 1) n a
@@ -79,7 +80,8 @@ module _ (p : ℕ) where
         rows =
             below-more (λ k. r < k → (j : ℕ) → j < n → c ≤ j → grid p (set b i z) k j ≡ grid p a k j ⊕ ⊖ (grid p a k c ⊗ red p v ⊗ grid p a r j)) i
             (λ k h lo j hj cj. ap (λ w. red p (getD w j 0)) (getD-set-other b i k z [] (λ q. omega arith)) ∙ so-far .rows k h lo j hj cj)
-            (λ lo j hj cj. ap (λ w. red p (getD w j 0)) (getD-set-same b i z [] inside) ∙ row .less j hj cj ∙ ap₂ (λ s t. s ⊕ ⊖ (t ⊗ grid p a r j)) (ap (λ w. red p (getD w j 0)) same) factor);
+            (λ lo j hj cj. ap (λ w. red p (getD w j 0)) (getD-set-same b i z [] inside) ∙ row .less j hj cj ∙ ap₂ (λ s t. s ⊕ ⊖ (t ⊗ grid p a r j))
+            (ap (λ w. red p (getD w j 0)) same) factor);
         stay = λ k h. getD-set-other b i k z [] (λ q. omega arith) ∙ so-far .stay k (omega arith);
       }
     where
@@ -102,7 +104,8 @@ module _ (p : ℕ) where
         same =
             Iff·trans (rest-exchange (K p) m n r c k (grid p a) low high)
             (subst (λ M. Rest (K p) m n r c M ↔ Rest (K p) m n (r + 1) (c + 1) (grid p b)) exchanged-grid
-            (rest-clear (K p) (K-decides p) (K-cancels p prime) (K-nontrivial p (prime .two-le)) m n r c (grid p s) (grid p b) (red p v) (omega arith) hc inverts
+            (rest-clear (K p) (K-decides p) (K-cancels p prime) (K-nontrivial p (prime .two-le)) m n r c (grid p s) (grid p b) (red p v)
+            (omega arith) hc inverts
             (λ j. ap (λ w. red p (getD w j 0)) (cleared .kept)) (cleared .rows)));
       }
     where
@@ -116,7 +119,8 @@ module _ (p : ℕ) where
       inverts = ap (λ x. x ⊗ red p v) entry ∙ red-of-inverse p prime (at a k c) v inverse
 
   -- The last row's step has nothing to exchange and nothing to clear.
-  pub stepped-last : Prime p → (a : List (List ℕ)) (r c k m n : ℕ) → r ≤ k → k < m → r + 1 ≡ m → c < n → at a k c ≢ 0 → at a k c < p → Below p a → Stepped p a r c m n a
+  pub stepped-last : Prime p → (a : List (List ℕ)) (r c k m n : ℕ) → r ≤ k → k < m → r + 1 ≡ m → c < n → at a k c ≢ 0 → at a k c < p → Below p a
+      → Stepped p a r c m n a
   stepped-last prime a r c k m n low high last hc nonzero small below =
       let (v, inverse) = inverse-exists p prime (at a k c) (λ z. nonzero (sym (mod-eq-of-lt small) ∙ z)) in
       stepped prime a r c k m n v a a low high hc inverse
@@ -131,7 +135,8 @@ module _ (p : ℕ) where
   left-start a m n below = record { row-in = omega arith; column-in = omega arith; below = below; same = Iff·symm (rest-start (K p) m n (grid p a)) }
 
   -- … a column with no entry other than 0 is passed …
-  pub left-passed : (a : List (List ℕ)) (m n r c : ℕ) (b : List (List ℕ)) (k : ℕ) → Left p a m n r c b → c < n → Found b c r m k → m ≤ k → Left p a m n r (c + 1) b
+  pub left-passed : (a : List (List ℕ)) (m n r c : ℕ) (b : List (List ℕ)) (k : ℕ) → Left p a m n r c b → c < n → Found b c r m k → m ≤ k → Left p a m n r
+      (c + 1) b
   left-passed a m n r c b k left hc found none =
       record {
         row-in = left .row-in;
@@ -141,12 +146,14 @@ module _ (p : ℕ) where
       }
 
   -- … a step goes on by a row and a column …
-  pub left-stepped : (a : List (List ℕ)) (m n r c : ℕ) (b d : List (List ℕ)) → Left p a m n r c b → r < m → c < n → Stepped p b r c m n d → Left p a m n (r + 1) (c + 1) d
+  pub left-stepped : (a : List (List ℕ)) (m n r c : ℕ) (b d : List (List ℕ)) → Left p a m n r c b → r < m → c < n → Stepped p b r c m n d → Left p a m n (r + 1)
+      (c + 1) d
   left-stepped a m n r c b d left hr hc step =
       record { row-in = omega arith; column-in = omega arith; below = step .below; same = Iff·trans (left .same) (step .same) }
 
   -- … and where no columns are left, the rows are dependent exactly if some are left.
-  pub left-settles : 2 ≤ p → (a : List (List ℕ)) (m n r c : ℕ) (b : List (List ℕ)) → Left p a m n r c b → n ≤ c → Settles (Dependent (K p) m n (grid p a)) (ltb r m)
+  pub left-settles : 2 ≤ p → (a : List (List ℕ)) (m n r c : ℕ) (b : List (List ℕ)) → Left p a m n r c b → n ≤ c → Settles (Dependent (K p) m n (grid p a))
+      (ltb r m)
   left-settles two a m n r c b left end =
       record {
         holds = λ e. left .same .1 (rest-no-columns (K p) (K-nontrivial p two) m n r c (grid p b) (ltb-true r m e) end);

@@ -48,7 +48,8 @@ module _ (R : CommRing) where
   -- At first all is left.
   pub rest-start : (m n : ℕ) (A : Matrix R) → Rest m n 0 0 A ↔ Dependent R m n A
   unfolding Rest
-  rest-start m n A = same-dependent (m - 0) (n - 0) m n (corner 0 0 A) A (sub-zero m) (sub-zero n) (λ i j hi hj. ap (λ x. A x (0 + j)) (zero-add i) ∙ ap (A i) (zero-add j))
+  rest-start m n A = same-dependent (m - 0) (n - 0) m n (corner 0 0 A) A (sub-zero m) (sub-zero n)
+      (λ i j hi hj. ap (λ x. A x (0 + j)) (zero-add i) ∙ ap (A i) (zero-add j))
 
   -- Where no rows are left, they are not dependent …
   pub rest-no-rows : (m n r c : ℕ) (A : Matrix R) → m ≤ r → ¬ Rest m n r c A
@@ -59,7 +60,8 @@ module _ (R : CommRing) where
   pub rest-no-columns : Nontrivial R → (m n r c : ℕ) (A : Matrix R) → r < m → n ≤ c → Rest m n r c A
   unfolding Rest
   rest-no-columns nontrivial m n r c A hr hc =
-      moved (suc (m - (r + 1))) zero (m - r) (n - c) (corner r c A) (corner r c A) (omega arith) (omega arith) (λ i j hi hj. refl) (no-columns R nontrivial (m - (r + 1)) (corner r c A))
+      moved (suc (m - (r + 1))) zero (m - r) (n - c) (corner r c A) (corner r c A) (omega arith) (omega arith) (λ i j hi hj. refl)
+      (no-columns R nontrivial (m - (r + 1)) (corner r c A))
 
   -- A column that is 0 in the rows that are left does not count.
   pub rest-zero-column : (m n r c : ℕ) (A : Matrix R) → c < n → ((i : ℕ) → r ≤ i → i < m → A i c ≡ 𝟘) → Rest m n r c A ↔ Rest m n r (c + 1) A
@@ -122,7 +124,8 @@ module _ (R : CommRing) where
           ∙ sym (rows (r + suc i) (omega arith) (omega arith) (c + j) (omega arith) (omega arith))
 
       first-nonzero : B (r + 0) (c + 0) ≢ 𝟘
-      first-nonzero e = nontrivial (sym inverse ∙ ap (λ x. x ⊗ v) (sym (kept c) ∙ ap (λ x. B x c) (sym (add-zero r)) ∙ ap (B (r + 0)) (sym (add-zero c)) ∙ e) ∙ zero-mul R v)
+      first-nonzero e = nontrivial (sym inverse ∙ ap (λ x. x ⊗ v) (sym (kept c) ∙ ap (λ x. B x c) (sym (add-zero r)) ∙ ap (B (r + 0)) (sym (add-zero c)) ∙ e)
+          ∙ zero-mul R v)
 
       below-zero : (i : ℕ) → i < m′ → B (r + suc i) (c + 0) ≡ 𝟘
       below-zero i h =

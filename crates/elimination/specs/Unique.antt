@@ -10,9 +10,11 @@ use Rattle.layout.specs.Settles.{Settles, settles-unique}
 use Rattle.elimination.specs.Grid.{grid}
 
 -- Two answers of `dependent` to one matrix are equal …
-pub dependent-unique : (a : List (List ℕ)) (p m n : ℕ) (r s : Bool) → Settles (Dependent (K p) m n (grid p a)) r → Settles (Dependent (K p) m n (grid p a)) s → r ≡ s
+pub dependent-unique : (a : List (List ℕ)) (p m n : ℕ) (r s : Bool) → Settles (Dependent (K p) m n (grid p a)) r → Settles (Dependent (K p) m n (grid p a)) s
+    → r ≡ s
 dependent-unique a p m n r s = settles-unique r s
 
 -- … and so are two answers of `singular`.
-pub singular-unique : (a : List (List ℕ)) (p m : ℕ) (r s : Bool) → Settles (det (K p) m (grid p a) ≡ K p .𝟘) r → Settles (det (K p) m (grid p a) ≡ K p .𝟘) s → r ≡ s
+pub singular-unique : (a : List (List ℕ)) (p m : ℕ) (r s : Bool) → Settles (det (K p) m (grid p a) ≡ K p .𝟘) r → Settles (det (K p) m (grid p a) ≡ K p .𝟘) s → r
+    ≡ s
 singular-unique a p m r s = settles-unique r s

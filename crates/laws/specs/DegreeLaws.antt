@@ -146,7 +146,8 @@ pub total-less : (n : ℕ) (f : ℕ → Option ℤ) (s : ℕ → ℤ) → total 
 unfolding total sum
 total-less zero f s = refl
 total-less (suc n) f s =
-    ap (plus (less (f zero) (s zero))) (total-less n (λ i. f (suc i)) (λ i. s (suc i))) ∙ both (f zero) (total n (λ i. f (suc i))) (s zero) (sum Integers n (λ i. s (suc i)))
+    ap (plus (less (f zero) (s zero))) (total-less n (λ i. f (suc i)) (λ i. s (suc i))) ∙ both (f zero) (total n (λ i. f (suc i))) (s zero)
+    (sum Integers n (λ i. s (suc i)))
   where
     both : (x y : Option ℤ) (s t : ℤ) → plus (less x s) (less y t) ≡ less (plus x y) (s +ℤ t)
     both none y s t = refl

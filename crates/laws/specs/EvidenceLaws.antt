@@ -146,7 +146,8 @@ module _ (s t lent : List ℕ) where
     pub evidence-made : evidence-size (c .0) ≤ length lent
         → make-evidence s t lent
         ≡ record { answer = written (evidence-size (c .0)); buffer = write-CE (evidence-of (c .0) (c .1)) ++ drop (evidence-size (c .0)) lent }
-    evidence-made h = by-size ∙ ap (by-room (c .0) (c .1) lent) (true-iff (leb (evidence-size (c .0)) (length lent)) .1 (le→leb (evidence-size (c .0)) (length lent) h))
+    evidence-made h = by-size ∙ ap (by-room (c .0) (c .1) lent) (true-iff (leb (evidence-size (c .0)) (length lent)) .1
+        (le→leb (evidence-size (c .0)) (length lent) h))
 
     -- "the lent buffer starts with the `CE` record, …
     pub evidence-front : evidence-size (c .0) ≤ length lent

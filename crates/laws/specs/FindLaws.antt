@@ -76,7 +76,8 @@ module _ (p : ℕ) where
   find-constants-none positive (suc m) test local e u =
       subst (λ w. test w ≡ false) (ap (λ x. cons x (λ i. u (suc i))) (red-onto p (u zero)) ∙ cons-eta u)
       (find-constants-none positive m (λ v. test (cons (red p (u zero .0)) v)) (λ v w same. local _ _ (same-cons m (red p (u zero .0)) v w same))
-      (by (find-constants p m (λ v. test (cons (red p (u zero .0)) v))) (first-some-none p _ e (u zero .0) (residue-below p positive (u zero)))) (λ i. u (suc i)))
+      (by (find-constants p m (λ v. test (cons (red p (u zero .0)) v))) (first-some-none p _ e (u zero .0) (residue-below p positive (u zero))))
+      (λ i. u (suc i)))
     where
       by : (o : Option (Row (K p))) → _≡_ {A = Option (Row (K p))} (elim o [ none ↦ none | some v ↦ some (cons (red p (u zero .0)) v) ]) none → o ≡ none
       by none e = refl

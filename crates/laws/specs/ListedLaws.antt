@@ -140,4 +140,5 @@ module _ (b : Problem) (positive : 0 < b .p) (n : ℕ) (M : Matrix (Series (K (b
   pub list-matrix-entries : ((i j : ℕ) → i < b .m → j < b .m → Below (K (b .p)) n (M i j))
       → Same (Series (K (b .p))) (b .m) (b .m) M (entries (K (b .p)) (matrix-P b (list-matrix (b .p) (b .m) n M)))
   list-matrix-entries below i j hi hj =
-      sym (series-ext (K (b .p)) (λ k. ap (λ l. red (b .p) (getD l k 0)) (entry-is i j hi hj) ∙ listed-coefficient (b .p) positive n (M i j) (below i j hi hj) k))
+      sym (series-ext (K (b .p)) (λ k. ap (λ l. red (b .p) (getD l k 0)) (entry-is i j hi hj) ∙ listed-coefficient (b .p) positive n (M i j)
+      (below i j hi hj) k))

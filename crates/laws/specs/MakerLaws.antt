@@ -104,7 +104,8 @@ module _ (b : Problem) (valid : ValidProblem b) where
     multipliers = chosen b k (basis-after b k) .multipliers
 
     -- What the step takes is a choice by the row degrees and the residuals of the orders reached.
-    step-choice : Choice (K (b .p)) (b .m) (b .n) (above b k) (before .r) (residuals (K (b .p)) (b .m) series-F before-orders (series-after k)) pivot multipliers
+    step-choice : Choice (K (b .p)) (b .m) (b .n) (above b k) (before .r)
+        (residuals (K (b .p)) (b .m) series-F before-orders (series-after k)) pivot multipliers
     unfolding chosen product mmul
     step-choice =
         choice-local (K (b .p)) (b .m) (b .n) (above b k) (row-degree-now b (basis-after b k)) (before .r) (λ i j. product b (basis-after b k) i j k)
@@ -120,7 +121,8 @@ module _ (b : Problem) (valid : ValidProblem b) where
         (λ i. before .r i +ℤ pos (once (pivot i))) (λ i. before .r i +ℤ pos (once (pivot i)))
         (next (K (b .p)) (b .m) pivot multipliers (series-after k)) (series-after (suc k))
         (λ j hj. raised k (order b j)) (λ i hi. refl) (after-step k)
-        (step-basis (K (b .p)) (K-decides (b .p)) (K-cancels (b .p) (valid .prime)) (K-nontrivial (b .p) (valid .prime .two-le)) (b .m) (b .n) series-F (shift b)
+        (step-basis (K (b .p)) (K-decides (b .p)) (K-cancels (b .p) (valid .prime)) (K-nontrivial (b .p) (valid .prime .two-le)) (b .m) (b .n) series-F
+        (shift b)
         before-orders (before .r) (series-after k) (above b k) pivot multipliers (before .basis) step-choice))
 
   -- After every step P is such a basis.

@@ -20,7 +20,8 @@ use Rattle.rules.specs.Claim.{Problem, Claim}
 use Rattle.rules.specs.Files.{read-claim, read-basis}
 use Rattle.laws.specs.Valid.{ValidProblem, ValidBasis, Valid}
 use Rattle.rules.specs.Matrices.{shift, at}
-use Rattle.rules.specs.Conditions.{shifted-degree-of, row-degree-of, row-degree, total, less, degree-sum-of, degree-sum, reduced, monomial-determinant, rank-below, low-fault, order-fault}
+use Rattle.rules.specs.Conditions.{shifted-degree-of, row-degree-of, row-degree, total, less, degree-sum-of, degree-sum, reduced, monomial-determinant}
+use Rattle.rules.specs.Conditions.{rank-below, low-fault, order-fault}
 use Rattle.rules.specs.Conditions.{first-place}
 use Rattle.rules.specs.Verdict.{Numbers, passed, unread, not-reduced, not-monomial, below-order, at-order, low-rank, no-room, written, four, numbers}
 use Rattle.rules.specs.Verdict.{natural, pass-with, by-rank, by-product, judge-claim, verdict, packed}

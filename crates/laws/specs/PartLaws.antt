@@ -158,7 +158,8 @@ module _ (s t : List ℕ) where
       let size = length-CE (c .problem) valid (c .answer) va in
       ap (part-bytes s t) (pointed-claim c q e ∙ ap (claim-part t (c .problem)) h)
       ∙ ap (λ l. take (evidence-size (c .problem)) (drop (length l - evidence-size (c .problem)) l)) (written-answer (c .problem) t bytes ea)
-      ∙ ap (take (evidence-size (c .problem))) (drop-at (write-basis (c .answer .P)) (write-CE (c .answer .C)) (length (write-answer (c .answer)) - evidence-size (c .problem))
+      ∙ ap (take (evidence-size (c .problem))) (drop-at (write-basis (c .answer .P)) (write-CE (c .answer .C))
+      (length (write-answer (c .answer)) - evidence-size (c .problem))
       (omega (arith, length-write-answer (c .problem) valid (c .answer) va)))
       ∙ take-all (evidence-size (c .problem)) (write-CE (c .answer .C)) (omega arith)
 

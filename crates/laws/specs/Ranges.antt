@@ -29,14 +29,16 @@ basis-valid b valid t p h = sound-basis b valid .gives t p h .0
 pub claim-got : (s t : List ℕ) (c : Claim) (q : Place) → read-claim s t ≡ got c q
     → (p : Place) × (read-problem s ≡ got (c .problem) p) × (answer-reader (c .problem) t (front 1) ≡ got (c .answer) q)
 claim-got s t c q =
-    both-parts answer-reader claim-for s t (λ c. (p : Place) × (read-problem s ≡ got (c .problem) p) × (answer-reader (c .problem) t (front 1) ≡ got (c .answer) q))
+    both-parts answer-reader claim-for s t (λ c. (p : Place) × (read-problem s ≡ got (c .problem) p) ×
+    (answer-reader (c .problem) t (front 1) ≡ got (c .answer) q))
     (λ b p a e f. (p, e, f))
 
 -- … and of a problem and a basis that are read, each is.
 pub basis-got : (s t : List ℕ) (c : Problem × List (List (List ℕ))) (q : Place) → read-basis s t ≡ got c q
     → (p : Place) × (read-problem s ≡ got (c .0) p) × (basis-reader (c .0) t (front 1) ≡ got (c .1) q)
 basis-got s t c q =
-    both-parts basis-reader basis-for s t (λ c. (p : Place) × (read-problem s ≡ got (c .0) p) × (basis-reader (c .0) t (front 1) ≡ got (c .1) q)) (λ b p P e f. (p, e, f))
+    both-parts basis-reader basis-for s t (λ c. (p : Place) × (read-problem s ≡ got (c .0) p) × (basis-reader (c .0) t (front 1) ≡ got (c .1) q))
+    (λ b p P e f. (p, e, f))
 
 -- A claim that is read is valid.
 pub claim-valid : (s t : List ℕ) {c : Claim} {q : Place} → read-claim s t ≡ got c q → Valid c

@@ -26,7 +26,10 @@ spans-weaken f h = record { over = λ s p x. let (k, e, w) = h .over s p x in (k
 
 spans-give : {A : Type 0} {R : A → ℕ → Type 0} (a : A) → R a 0 → Spans (give a) R
 spans-give {A} {R} a v =
-    record { over = λ s p {a = a′} {q} x. let e : a ≡ a′ = cc in let f : p ≡ q = cc in (0, ap (λ p. p .at) (sym f) ∙ sym (add-zero (p .at)), subst (λ a. R a 0) e v) }
+    record {
+      over = λ s p {a = a′} {q} x. let e : a ≡ a′ = cc in let f : p ≡ q = cc in
+          (0, ap (λ p. p .at) (sym f) ∙ sym (add-zero (p .at)), subst (λ a. R a 0) e v);
+    }
 
 spans-end : {A : Type 0} {R : A → ℕ → Type 0} (a : A) → R a 0 → Spans (end a) R
 spans-end {A} {R} a v = record {
@@ -68,7 +71,8 @@ unfolding each write-each
 spans-each w i₀ zero f h = spans-give [] (refl, refl)
 spans-each w i₀ (suc n) f h =
     spans-next (h 0) (λ a k e.
-    spans-next (spans-each w (suc i₀) n (λ i. f (suc i)) (λ i. spans-weaken (λ a k e. e ∙ ap (λ n. length (w n a)) (omega arith)) (h (suc i)))) (λ c l (e′, size).
+    spans-next (spans-each w (suc i₀) n (λ i. f (suc i)) (λ i. spans-weaken (λ a k e. e ∙ ap (λ n. length (w n a)) (omega arith)) (h (suc i))))
+    (λ c l (e′, size).
     spans-give (a ∷ c) (omega (arith, e, e′, ap (λ i. length (w i a)) (add-zero i₀), length-append (w i₀ a) (write-each w (suc i₀) c)), ap suc size)))
 
 spans-list : {A : Type 0} (w : ℕ → A → List ℕ) (n : ℕ) (f : ℕ → Reader A) → ((i : ℕ) → Spans (f i) (λ a k. k ≡ length (w i a)))
@@ -125,7 +129,8 @@ spans-problem =
     spans-next (spans-OR (t .2)) (λ orders k₁ e₁.
     spans-next (spans-SH (t .1)) (λ shifts k₂ e₂.
     spans-next (spans-list write-FC (t .2) _ (λ j. spans-FC (t .0) (t .1) (getD orders j 0) j)) (λ F k₃ e₃.
-    spans-end (record { p = t .0; m = t .1; n = t .2; orders = orders; shifts = shifts; F = F }) (rw (length-append, length-append, length-append) (omega arith))))))
+    spans-end (record { p = t .0; m = t .1; n = t .2; orders = orders; shifts = shifts; F = F })
+    (rw (length-append, length-append, length-append) (omega arith))))))
 
 spans-entries : (p m : ℕ) → Spans (entries-reader p m) (λ P k. k ≡ length (write-basis P))
 unfolding entries-reader write-basis

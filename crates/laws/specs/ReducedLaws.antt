@@ -24,7 +24,8 @@ use Rattle.algebra.specs.Degree.{AtMost, EntriesAtMost, at-most-zeros, coeffici
 use Rattle.algebra.specs.PolyMatrix.{entries}
 use Rattle.rules.specs.Claim.{Problem}
 use Rattle.rules.specs.Matrices.{shift, at, matrix-P}
-use Rattle.rules.specs.Conditions.{shifted-degree-of, row-degree-of, row-degree, leading-coefficient, leading-matrix, reduced, determinant, less, degree-sum-of, degree-sum}
+use Rattle.rules.specs.Conditions.{shifted-degree-of, row-degree-of, row-degree, leading-coefficient, leading-matrix, reduced, determinant, less}
+use Rattle.rules.specs.Conditions.{degree-sum-of, degree-sum}
 use Rattle.laws.specs.BoolLaws.{false-iff, not-iff}
 use Rattle.laws.specs.SearchLaws.{is-zero-iff}
 use Rattle.laws.specs.DegreeLaws.{largest-above, largest-none, total-is, shifted-some, shifted-none}

@@ -94,12 +94,14 @@ module _ (degree : ℕ → ℤ) (taken : ℕ → Bool) where
           let (z, none-lower) = unless-both (taken i) (lower-left m degree taken i) .0 e in (
             hi,
             z,
-            λ k hk zk. more-of-test (degree i) (degree k) (unless-iff (taken k) (leZ (degree i) (degree k)) .0 (some-below-false-iff m _ .0 none-lower k hk) zk),
+            λ k hk zk. more-of-test (degree i) (degree k) (unless-iff (taken k) (leZ (degree i) (degree k)) .0
+                (some-below-false-iff m _ .0 none-lower k hk) zk),
           ),
       λ (h, z, least).
           unless-both (taken i) (lower-left m degree taken i) .1 (
             z,
-            some-below-false-iff m _ .1 (λ k hk. unless-iff (taken k) (leZ (degree i) (degree k)) .1 (λ zk. test-of-more (degree i) (degree k) (least k hk zk))),
+            some-below-false-iff m _ .1 (λ k hk. unless-iff (taken k) (leZ (degree i) (degree k)) .1
+                (λ zk. test-of-more (degree i) (degree k) (least k hk zk))),
           ),
     )
 

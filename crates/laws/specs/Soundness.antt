@@ -258,7 +258,8 @@ module _ (b : Problem) (valid : ValidProblem b) where
   positive = le-of-lt (valid .prime .two-le)
 
   -- What holds of the zero entry and of every entry read holds of every entry of P.
-  entry-of : (P : List (List (List ℕ))) → Entries (b .p) (b .m) P → (Q : List ℕ → Type 0) → Q [] → ((l : List ℕ) → Entry (b .p) l → Q l) → (i j : ℕ) → Q (at P i j)
+  entry-of : (P : List (List (List ℕ))) → Entries (b .p) (b .m) P → (Q : List ℕ → Type 0) → Q [] → ((l : List ℕ) → Entry (b .p) l → Q l) → (i j : ℕ) → Q
+      (at P i j)
   entry-of P h Q v f = listed-all P (λ row. (j : ℕ) → Q (getD row j [])) (λ j. v) (λ i row r. listed-all row Q v (λ j. f) r) h
 
   entry-below : (l : List ℕ) → Entry (b .p) l → (k : ℕ) → getD l k 0 < b .p

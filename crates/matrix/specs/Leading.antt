@@ -107,4 +107,5 @@ pub leading-array-below : (p : ℕ) (entries lengths : List ℕ) (shifts : List 
 unfolding leading-number
 leading-array-below p entries lengths shifts m pos-p below =
     array-of-below p m m (leading-number entries lengths shifts m) pos-p (λ i j.
-    at-degree-below p (row-degree-of m (length-at lengths i) (shift-at shifts)) (shift-at shifts j) (cell entries i j) pos-p (cell-below p entries i j pos-p below))
+    at-degree-below p (row-degree-of m (length-at lengths i) (shift-at shifts)) (shift-at shifts j) (cell entries i j) pos-p
+    (cell-below p entries i j pos-p below))

@@ -9,7 +9,8 @@ use Rattle.matrix.specs.Leading.{leading-number}
 use Rattle.matrix.specs.Rank.{rank-number}
 
 -- `leading_matrix`.
-pub leading-matrix-unique : (entries lengths : List ℕ) (shifts : List ℤ) (m : ℕ) {r s : List (List ℕ)} → r ≡ array-of m m (leading-number entries lengths shifts m)
+pub leading-matrix-unique : (entries lengths : List ℕ) (shifts : List ℤ) (m : ℕ) {r s : List (List ℕ)} → r ≡ array-of m m
+    (leading-number entries lengths shifts m)
     → s ≡ array-of m m (leading-number entries lengths shifts m) → r ≡ s
 leading-matrix-unique entries lengths shifts m e e′ = e ∙ sym e′
 

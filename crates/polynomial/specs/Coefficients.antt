@@ -88,4 +88,5 @@ coefficients-unique p f x x′ h h′ i = record { coefficients = numbers i; len
     numbers = ext-getD 0 (x .coefficients) (x′ .coefficients) (h .long ∙ sym (h′ .long)) (λ k b. number k)
 
     lengths : x .length ≡ x′ .length
-    lengths = ends-unique (λ k. getD (x′ .coefficients) k 0) (x .length) (x′ .length) (subst (λ l. Ends (λ k. getD l k 0) (x .length)) numbers (h .trimmed)) (h′ .trimmed)
+    lengths = ends-unique (λ k. getD (x′ .coefficients) k 0) (x .length) (x′ .length) (subst (λ l. Ends (λ k. getD l k 0) (x .length)) numbers (h .trimmed))
+        (h′ .trimmed)

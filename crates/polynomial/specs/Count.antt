@@ -82,7 +82,15 @@ only-of-one g (suc n) h = elim (ℕ-discrete (g n) 0) [
   | yes z ↦
       let (e, (b, ne, others)) = only-of-one g n (omega (arith, counted-zero (g n) z)) in
       (e, (omega arith, ne, below-suc (λ k. k ≢ e → g k ≡ 0) n (λ d. z) others))
-  | no nz ↦ (n, (omega arith, nz, below-suc (λ k. k ≢ n → g k ≡ 0) n (λ d. absurd (d refl)) (λ k b d. zeros-of-none g n (omega (arith, counted-one (g n) nz)) k b)))
+  | no nz ↦ (
+    n,
+    (
+      omega arith,
+      nz,
+      below-suc (λ k. k ≢ n → g k ≡ 0) n (λ d. absurd (d refl))
+          (λ k b d. zeros-of-none g n (omega (arith, counted-one (g n) nz)) k b),
+    ),
+  )
 ]
 
 -- … and the other way round.
@@ -123,5 +131,6 @@ count-settles l {n} {r} zeros counts p small = record {
     zero-below k z = sym (mod-eq-of-lt (small k)) ∙ red-zero-iff p (omega (arith, small k)) (g k) .0 z
 
 -- What that tells of the polynomial whose coefficients they are.
-pub tests-monomial : {p : ℕ} {f : ℕ → Residue p} {x : Polynomial} {r : Bool} → Coefficients p f x → TestsMonomial (x .coefficients) r → Settles (Monomial (K p) f) r
+pub tests-monomial : {p : ℕ} {f : ℕ → Residue p} {x : Polynomial} {r : Bool} → Coefficients p f x → TestsMonomial (x .coefficients) r → Settles
+    (Monomial (K p) f) r
 tests-monomial {p} {r = r} has test = subst (λ f. Settles (Monomial (K p) f) r) (has .same) (test p (has .small))

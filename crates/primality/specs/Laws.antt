@@ -45,4 +45,5 @@ test-of-range hi p two odd reach none = test-of-prime p (prime-of-range p hi two
 -- An odd number that no prime from 3 on and below lo divides is prime exactly if a search from lo on finds nothing.
 pub test-of-rest : (lo p : ℕ) (r : Bool) → 2 ≤ p → p % 2 ≡ 1 → NoPrime 3 lo p → Sifted lo (p + 1) p r → not r ≡ is-prime p
 test-of-rest lo p true two odd before rest = test-of-other p (rest .found refl)
-test-of-rest lo p false two odd before rest = test-of-range (p + 1) p two odd (omega (arith, mul-le-mul-right {m = 1} {n = p + 1} (p + 1) (omega arith))) (range-both before (rest .none refl))
+test-of-rest lo p false two odd before rest = test-of-range (p + 1) p two odd (omega (arith, mul-le-mul-right {m = 1} {n = p + 1} (p + 1) (omega arith)))
+    (range-both before (rest .none refl))

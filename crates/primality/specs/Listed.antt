@@ -128,7 +128,8 @@ gap-of d e t =
     (omega arith, (omega arith, λ x lo hi. composites-of ((e - d) / 2) d x all lo (omega arith)))
 
 -- What holds of every number of a list that covers a range holds of every prime of the range.
-covers-of : (P : ℕ → Type 0) (hi d : ℕ) (q : List ℕ) → T (covers hi d q) → ((i : ℕ) → i < length q → P (getD q i 0)) → (x : ℕ) → Prime x → x % 2 ≡ d % 2 → d ≤ x → x < hi → P x
+covers-of : (P : ℕ → Type 0) (hi d : ℕ) (q : List ℕ) → T (covers hi d q) → ((i : ℕ) → i < length q → P (getD q i 0)) → (x : ℕ) → Prime x → x % 2 ≡ d % 2 → d ≤ x
+    → x < hi → P x
 unfolding covers
 covers-of P hi d [] t each x prime parity lo up = absurd (gap-of d hi t .1 .1 x lo up parity prime)
 covers-of P hi d (q ∷ qs) t each x prime parity lo up =
@@ -138,7 +139,8 @@ covers-of P hi d (q ∷ qs) t each x prime parity lo up =
     (λ notless. by-cases (ℕ-discrete x q) (λ e. subst P (sym e) (each 0 (suc-le-suc (omega arith))))
     (λ ne. covers-of P hi (q + 2) qs rest (λ i h. each (suc i) (suc-le-suc h)) x prime (omega arith) (omega arith) up))
 
-bounds-cons : (hi d q : ℕ) (qs : List ℕ) → d ≤ q → (q + 2 ≤ hi) × ((i : ℕ) → i < length qs → (q + 2 ≤ getD qs i 0) × (getD qs i 0 < hi)) → (d ≤ hi) × ((i : ℕ) → i < length (q ∷ qs) → (d ≤ getD (q ∷ qs) i 0) × (getD (q ∷ qs) i 0 < hi))
+bounds-cons : (hi d q : ℕ) (qs : List ℕ) → d ≤ q → (q + 2 ≤ hi) × ((i : ℕ) → i < length qs → (q + 2 ≤ getD qs i 0) × (getD qs i 0 < hi)) → (d ≤ hi) ×
+    ((i : ℕ) → i < length (q ∷ qs) → (d ≤ getD (q ∷ qs) i 0) × (getD (q ∷ qs) i 0 < hi))
 bounds-cons hi d q qs start (end, rest) = (omega arith, each)
   where
     each : (i : ℕ) → i < length (q ∷ qs) → (d ≤ getD (q ∷ qs) i 0) × (getD (q ∷ qs) i 0 < hi)
@@ -154,15 +156,18 @@ bounds-of hi d (q ∷ qs) t =
     bounds-cons hi d q qs (gap-of d q before .0) (bounds-of hi (q + 2) qs rest)
 
 -- The odd primes of a range are covered by the table; so a search in it is a search among them.
-pub sifted-of-found : (hi lo p : ℕ) (q v : List ℕ) (r : Bool) → T (covers hi lo q) → lo % 2 ≡ 1 → 3 ≤ lo → hi ≤ p → Table q v → Found (InTable q p) r → Sifted lo hi p r
+pub sifted-of-found : (hi lo p : ℕ) (q v : List ℕ) (r : Bool) → T (covers hi lo q) → lo % 2 ≡ 1 → 3 ≤ lo → hi ≤ p → Table q v → Found (InTable q p) r
+    → Sifted lo hi p r
 sifted-of-found hi lo p q v r t odd three reach table search = record {
   found = λ e. go (search .some e);
-  none = λ e x prime above below. covers-of (λ y. y * y ≤ p → ¬ (y ∣ p)) hi lo q t (each (search .none e)) x prime (omega (arith, prime-odd x prime (omega arith))) above below;
+  none = λ e x prime above below. covers-of (λ y. y * y ≤ p → ¬ (y ∣ p)) hi lo q t (each (search .none e)) x prime
+      (omega (arith, prime-odd x prime (omega arith))) above below;
 }
   where
     -- a number of the table is between 1 and p
     go : ((i : ℕ) × InTable q p i) → ¬ Prime p
-    go (i, h) = let (low, high) = bounds-of hi lo q t .1 i (h .inside) in divided p (getD q i 0) (omega arith) (omega arith) (mod-eq-zero-of-dvd (getD q i 0) (h .divides))
+    go (i, h) = let (low, high) = bounds-of hi lo q t .1 i (h .inside) in divided p (getD q i 0) (omega arith) (omega arith)
+        (mod-eq-zero-of-dvd (getD q i 0) (h .divides))
 
     -- the square of a block's first number is at most that of each
     each : ((i : ℕ) → ¬ InTable q p i) → (i : ℕ) → i < length q → getD q i 0 * getD q i 0 ≤ p → ¬ (getD q i 0 ∣ p)

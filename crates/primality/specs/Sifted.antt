@@ -37,11 +37,18 @@ prime-odd d prime three = omega (arith, prime-mod-pos prime 2 (omega arith) (ome
 pub sifted-of-odd : (lo p : ℕ) (r : Bool) → 3 ≤ lo → Found (OddDivisor lo p) r → Sifted lo (p + 1) p r
 sifted-of-odd lo p r three search = record {
   found = λ e. go (search .some e);
-  none = λ e d prime above below square divides. search .none e d (record { above = above; odd = prime-odd d prime (omega arith); square = square; divides = divides });
+  none = λ e d prime above below square divides. search .none e d (record {
+    above = above;
+    odd = prime-odd d prime
+        (omega arith);
+    square = square;
+    divides = divides;
+  });
 }
   where
     go : ((d : ℕ) × OddDivisor lo p d) → ¬ Prime p
-    go (d, h) = divided p d (omega (arith, h .above)) (omega (arith, h .above, h .square, mul-le-mul-right {m = 3} {n = d} d (omega (arith, h .above)))) (mod-eq-zero-of-dvd d (h .divides))
+    go (d, h) = divided p d (omega (arith, h .above)) (omega (arith, h .above, h .square, mul-le-mul-right {m = 3} {n = d} d (omega (arith, h .above))))
+        (mod-eq-zero-of-dvd d (h .divides))
 
 -- Every divisor of p leads down to a prime one.
 descend : (p : ℕ) → ((d : ℕ) → Prime d → d * d ≤ p → ¬ (d ∣ p)) → (k d : ℕ) → d ≤ k → 2 ≤ d → d * d ≤ p → ¬ (d ∣ p)
@@ -63,7 +70,9 @@ pub prime-of-range : (p hi : ℕ) → 2 ≤ p → p % 2 ≡ 1 → p < hi * hi �
 prime-of-range p hi two odd reach none = prime-of-no-small-divisor p two (λ d lo sq. descend p each d d (omega arith) lo sq)
   where
     below : (d : ℕ) → d * d ≤ p → d < hi
-    below d sq = by-cases (decLt d hi) (λ less. less) (λ above. absurd (omega (arith, mul-le-mul {n₁ = hi} {m₁ = hi} {n₂ = d} {m₂ = d} (omega arith) (omega arith))))
+    below d sq = by-cases (decLt d hi) (λ less. less) (λ above. absurd (omega
+        (arith, mul-le-mul {n₁ = hi} {m₁ = hi} {n₂ = d} {m₂ = d} (omega arith) (omega arith))))
 
     each : (d : ℕ) → Prime d → d * d ≤ p → ¬ (d ∣ p)
-    each d prime sq h = by-cases (ℕ-discrete d 2) (λ e. omega (arith, mod-eq-zero-of-dvd 2 (rw e at h))) (λ ne. none d prime (omega (arith, prime .two-le)) (below d sq) sq h)
+    each d prime sq h = by-cases (ℕ-discrete d 2) (λ e. omega (arith, mod-eq-zero-of-dvd 2 (rw e at h)))
+        (λ ne. none d prime (omega (arith, prime .two-le)) (below d sq) sq h)

@@ -27,7 +27,13 @@ appended-nothing l at = record { ends = sym (add-zero at); holds = sym (append-n
 
 -- One byte.
 pub appended-byte : (l : List ℕ) (at b : ℕ) → at < length l → Appended l (set l at b) at (at + 1) (b ∷ [])
-appended-byte l at b h = record { ends = refl; holds = rw (add-one at) (take-suc-set l at b h); rest = drop-set-lt (at + 1) l at b (omega arith); same-length = length-set l at b }
+appended-byte l at b h = record {
+  ends = refl;
+  holds = rw (add-one at) (take-suc-set l at b h);
+  rest = drop-set-lt (at + 1) l at b
+      (omega arith);
+  same-length = length-set l at b;
+}
 
 -- A piece behind another.
 pub appended-both : (l l′ l″ : List ℕ) (at e f : ℕ) (t u : List ℕ) → Appended l l′ at e t → Appended l′ l″ e f u → Appended l l″ at f (t ++ u)
@@ -50,8 +56,11 @@ appended-next l l′ text at i h fits x =
 -- The text settles where it ends and every byte of the array afterwards.
 pub appended-unique : (l x y : List ℕ) (at e f : ℕ) (t : List ℕ) → Appended l x at e t → Appended l y at f t → (e ≡ f) × (x ≡ y)
 appended-unique l x y at e f t a b =
-    let same : e ≡ f = a .ends ∙ sym (b .ends) in
-    (same, sym (take-append-drop e x) ∙ ap₂ (λ u v. u ++ v) (a .holds ∙ sym (b .holds)) (a .rest ∙ ap (λ k. drop k l) same ∙ sym (b .rest)) ∙ take-append-drop f y)
+    let same : e ≡ f = a .ends ∙ sym (b .ends) in (
+      same,
+      sym (take-append-drop e x) ∙ ap₂ (λ u v. u ++ v) (a .holds ∙ sym (b .holds)) (a .rest ∙ ap (λ k. drop k l) same ∙ sym (b .rest))
+          ∙ take-append-drop f y,
+    )
 
 -- One byte behind a text.
 pub appended-push : (l l′ : List ℕ) (at e b : ℕ) (t : List ℕ) → e < length l → Appended l l′ at e t → Appended l (set l′ e b) at (e + 1) (t ++ (b ∷ []))

@@ -12,13 +12,17 @@ put-text-requires : tie.Need-put-text-requires
 put-text-requires c κs = search needs
 
 put-number-requires : tie.Need-put-number-requires
-put-number-requires c κs = omega (arith, digits-word (c .before .before .before .before .before .before .before .args .n) (omega arith))
+put-number-requires c κs =
+    let c₅ = c .before .before .before .before .before in
+    omega (arith, digits-word (c₅ .before .before .args .n) (omega arith))
 
 same-length : tie.Need-same-length
 same-length c = search needs
 
 returns : tie.Need-returns
-returns c = omega (arith, digits-word (c .before .before .before .before .before .before .before .before .before .before .args .n) (omega arith))
+returns c =
+    let c₅ = c .before .before .before .before .before in
+    omega (arith, digits-word (c₅ .before .before .before .before .before .args .n) (omega arith))
 
 pub put-spaced-spec : {M : Type 1} → statement M
 put-spaced-spec =

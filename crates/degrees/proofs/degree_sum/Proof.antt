@@ -55,10 +55,14 @@ element-copy-out-minus c = search needs
 
 -- The row's number, what it was called with, and its degree as it is read back.
 abbrev start : tie.After-minus-arg Inv-loop μ-loop → tie.Start Inv-loop μ-loop
-start c = c .before .before .before .before .before .before .before
+start c =
+    let c₅ = c .before .before .before .before .before in
+    c₅ .before .before
 
 abbrev number : tie.After-minus-arg Inv-loop μ-loop → ℕ
-number c = c .before .before .before .before .before .before .loop .i - 1
+number c =
+    let c₅ = c .before .before .before .before .before in
+    c₅ .before .loop .i - 1
 
 abbrev row : tie.After-minus-arg Inv-loop μ-loop → ℤ
 row c = toZ w32 (ofZ w32 (c .before .before .row .given .0 .0))
@@ -87,11 +91,13 @@ added c =
 plus-requires : tie.Need-plus-requires Inv-loop μ-loop
 unfolding most-rows most-length most-shift
 plus-requires c κs =
+    let c₅ = c .before .before .before .before .before in
     let s = start (c .before) in
-    let l = c .before .before .before .before .before .before .before .loop in
+    let l = c₅ .before .before .loop in
     omega (
       arith,
-      excess-size (s .args .lengths .now) (s .args .t1 .shifts) (s .pre .0) (s .args .t1 .m) (number (c .before)) (toZ w32 (ofZ w32 (c .minus .result))) (added c),
+      excess-size (s .args .lengths .now) (s .args .t1 .shifts) (s .pre .0) (s .args .t1 .m) (number (c .before)) (toZ w32 (ofZ w32 (c .minus .result)))
+          (added c),
       total-from-size (s .args .lengths .now) (s .args .t1 .shifts) (s .pre .0) (s .args .t1 .m) (l .i) (toZ w32 (l .sum)) (sym (l .inv .1)),
     )
 
@@ -100,8 +106,9 @@ loop-less c = search needs
 
 loop-again : tie.Need-loop-again Inv-loop μ-loop
 loop-again c =
+    let c₅ = c .before .before .before .before .before in
     let s = start (c .before .before) in
-    let l = c .before .before .before .before .before .before .before .before .loop in (
+    let l = c₅ .before .before .before .loop in (
       search needs,
       ap some (back (record { sfits = c .plus .ok }) ∙ c .plus .ensures)
           ∙ ap₂ plus (sym (added (c .before))) (l .inv .1)

@@ -40,7 +40,8 @@ loop-again c =
       search needs,
       c .larger-degree .ensures
           ∙ ap₂ larger (c .before .term .ensures) (at .loop .inv .1)
-          ∙ largest-from-step (entry-term (s .args .lengths .now) (s .args .head .shifts) (s .args .i)) (s .args .head .m) (at .loop .j) (omega arith) (omega arith),
+          ∙ largest-from-step (entry-term (s .args .lengths .now) (s .args .head .shifts) (s .args .i)) (s .args .head .m) (at .loop .j) (omega arith)
+          (omega arith),
     )
 
 returns : tie.Need-returns Inv-loop μ-loop

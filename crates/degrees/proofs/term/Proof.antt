@@ -33,7 +33,8 @@ shifted-degree-requires : tie.Need-shifted-degree-requires
 shifted-degree-requires c κs =
     let s = c .before .before .before in (
       s .pre .0 .length-most (c .before .before .square-place .result),
-      subst (λ z. natAbs z ≤ most-shift) (sym (shift-back (s .args .lengths .now) (s .args .t1 .shifts) (s .pre .0) (s .args .j))) (s .pre .0 .shift-most (s .args .j)),
+      subst (λ z. natAbs z ≤ most-shift) (sym (shift-back (s .args .lengths .now) (s .args .t1 .shifts) (s .pre .0) (s .args .j)))
+          (s .pre .0 .shift-most (s .args .j)),
     )
 
 returns : tie.Need-returns

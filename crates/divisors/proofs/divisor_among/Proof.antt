@@ -18,7 +18,8 @@ use Rattle.divisors.proofs.divisor_among.Tie as tie
 -- If the first number of a block has a square above p, no number from there on is looked for.
 enough : {q v : List ℕ} {a p : ℕ} → Table q v → a % block ≡ 0 → Clear q 0 a p → p < getD q a 0 * getD q a 0 → (i : ℕ) → ¬ InTable q p i
 enough {q} {v} {a} table start clear above i h =
-    by-cases (decLt i a) (λ before. clear .none i (omega arith) before (h .divides)) (λ after. omega (arith, squares (block-after table a i start (omega arith) (h .inside)), h .square))
+    by-cases (decLt i a) (λ before. clear .none i (omega arith) before (h .divides))
+    (λ after. omega (arith, squares (block-after table a i start (omega arith) (h .inside)), h .square))
   where
     squares : getD q a 0 ≤ first q i → getD q a 0 * getD q a 0 ≤ first q i * first q i
     squares le = mul-le-mul le le
@@ -54,38 +55,44 @@ mul-if1 c = omega (arith, product-small (c .wide .ensures .1) (c .wide .ensures 
 
 returns : tie.Need-returns Inv-loop μ-loop
 returns c =
+    let c₅ = c .before .before .before .before .before in
     let start = c .before .before .before .before in
-    found-none (enough (c .before .before .before .before .before .before .before .pre) (start .loop .inv .1 .0) (start .loop .inv .1 .1) (rw (sym (c .before .wide .ensures .0)) (omega arith)))
+    found-none (enough (c₅ .before .before .pre) (start .loop .inv .1 .0) (start .loop .inv .1 .1) (rw (sym (c .before .wide .ensures .0)) (omega arith)))
 
 divisor-in-block-requires : tie.Need-divisor-in-block-requires Inv-loop μ-loop
 divisor-in-block-requires c κs =
-    let start = c .before .before .before .before .before .before .before in
+    let c₅ = c .before .before .before .before .before in
+    let start = c₅ .before .before in
     (start .pre, room (c .before .before .before .before .loop .inv .1 .0) (start .pre .blocks) (c .before .before .before .loop-test .taken))
 
 returns-2 : tie.Need-returns-2 Inv-loop μ-loop
 returns-2 c =
+    let c₅ = c .before .before .before .before .before in
     let (i, h) = c .before .divisor-in-block .ensures .some (c .if2 .taken) in
-    found-one i (found i (c .before .before .before .before .before .before .loop .inv .1 .0) (room (c .before .before .before .before .before .before .loop .inv .1 .0) (c .before .before .before .before .before .before .before .before .before .pre .blocks) (c .before .before .before .before .before .loop-test .taken)) (rw (sym (c .before .before .before .wide .ensures .0)) (omega arith)) h)
+    found-one i (found i (c₅ .before .loop .inv .1 .0) (room (c₅ .before .loop .inv .1 .0) (c₅ .before .before .before .before .pre .blocks)
+    (c .before .before .before .before .before .loop-test .taken)) (rw (sym (c .before .before .before .wide .ensures .0)) (omega arith)) h)
 
 add-from : tie.Need-add-from Inv-loop μ-loop
 add-from c =
+    let c₅ = c .before .before .before .before .before in
     omega (
       arith,
-      room (c .before .before .before .before .before .before .loop .inv .1 .0) (c .before .before .before .before .before .before .before .before .before .pre .blocks) (c .before .before .before .before .before .loop-test .taken),
+      room (c₅ .before .loop .inv .1 .0) (c₅ .before .before .before .before .pre .blocks) (c .before .before .before .before .before .loop-test .taken),
     )
 
 loop-less : tie.Need-loop-less Inv-loop μ-loop
 loop-less c = search needs
 
 loop-again : tie.Need-loop-again Inv-loop μ-loop
-loop-again c = (
-  room (c .before .before .before .before .before .before .loop .inv .1 .0) (c .before .before .before .before .before .before .before .before .before .pre .blocks) (c .before .before .before .before .before .loop-test .taken),
-  (
-    omega (arith, c .before .before .before .before .before .before .loop .inv .1 .0),
-    clear-both (c .before .before .before .before .before .before .loop .inv .1 .1)
-        (record { none = λ i lo hi h. c .before .divisor-in-block .ensures .none (c .if2 .left) i (record { start = lo; end = hi; divides = h }) }),
-  ),
-)
+loop-again c =
+    let c₅ = c .before .before .before .before .before in (
+      room (c₅ .before .loop .inv .1 .0) (c₅ .before .before .before .before .pre .blocks) (c .before .before .before .before .before .loop-test .taken),
+      (
+        omega (arith, c₅ .before .loop .inv .1 .0),
+        clear-both (c₅ .before .loop .inv .1 .1)
+            (record { none = λ i lo hi h. c .before .divisor-in-block .ensures .none (c .if2 .left) i (record { start = lo; end = hi; divides = h }) }),
+      ),
+    )
 
 returns-3 : tie.Need-returns-3 Inv-loop μ-loop
 returns-3 c = found-none (λ i h. c .before .loop .inv .1 .1 .none i (omega arith) (omega (arith, h .inside)) (h .divides))

@@ -35,11 +35,13 @@ rem-if1 : tie.Need-rem-if1 Inv-loop μ-loop
 rem-if1 c = omega (arith, c .before .before .before .before .before .pre .0 .at (c .before .before .before .loop .i) (omega arith), c .wide .ensures .0)
 
 returns : tie.Need-returns Inv-loop μ-loop
-returns c = found-one (c .before .before .before .before .loop .i) (record {
-  start = omega arith;
-  end = omega arith;
-  divides = dvd-of-mod-eq-zero _ (ap (λ x. c .before .before .before .before .before .before .args .p % x) (sym (c .before .wide .ensures .0)) ∙ c .if1 .taken);
-})
+returns c =
+    let c₅ = c .before .before .before .before .before in
+    found-one (c .before .before .before .before .loop .i) (record {
+      start = omega arith;
+      end = omega arith;
+      divides = dvd-of-mod-eq-zero _ (ap (λ x. c₅ .before .args .p % x) (sym (c .before .wide .ensures .0)) ∙ c .if1 .taken);
+    })
 
 add-i : tie.Need-add-i Inv-loop μ-loop
 add-i c = search needs
@@ -49,10 +51,18 @@ loop-less c = search needs
 
 loop-again : tie.Need-loop-again Inv-loop μ-loop
 loop-again c =
-    (omega arith, (omega arith, clear-more refl (λ h. c .if1 .left (ap (λ x. c .before .before .before .before .before .before .args .p % x) (c .before .wide .ensures .0) ∙ mod-eq-zero-of-dvd _ h)) (c .before .before .before .before .loop .inv .1 .1)))
+    let c₅ = c .before .before .before .before .before in (
+      omega arith,
+      (
+        omega arith,
+        clear-more refl (λ h. c .if1 .left (ap (λ x. c₅ .before .args .p % x) (c .before .wide .ensures .0) ∙ mod-eq-zero-of-dvd _ h))
+            (c .before .before .before .before .loop .inv .1 .1),
+      ),
+    )
 
 returns-2 : tie.Need-returns-2 Inv-loop μ-loop
 returns-2 c = found-none (λ i h. c .before .loop .inv .1 .1 .none i (h .start) (omega (arith, h .end)) (h .divides))
 
 pub divisor-by-division-spec : {M : Type 1} → statement M
-divisor-by-division-spec = tie.close (tie.spec Inv-loop μ-loop loop-holds add-loop mul-wide shared-slice-read-wide wide-requires rem-if1 returns add-i loop-less loop-again returns-2)
+divisor-by-division-spec = tie.close
+    (tie.spec Inv-loop μ-loop loop-holds add-loop mul-wide shared-slice-read-wide wide-requires rem-if1 returns add-i loop-less loop-again returns-2)

@@ -21,7 +21,8 @@ low-product-requires-2 c κs = search needs
 returns : tie.Need-returns
 returns c =
     let args = c .before .before .before .before .args in
-    let taken : c .before .wrapping-sub-u16 .result ≡ (args .high + (65536 - c .before .before .high-product .result)) % 65536 = omega (arith, c .before .wrapping-sub-u16 .ensures) in
+    let taken : c .before .wrapping-sub-u16 .result ≡ (args .high + (65536 - c .before .before .high-product .result)) % 65536 = omega
+    (arith, c .before .wrapping-sub-u16 .ensures) in
     c .low-product2 .ensures
     ∙ ap (λ x. x * args .v % 65536) taken
     ∙ ap (λ x. (args .high + (65536 - x)) % 65536 * args .v % 65536)

@@ -53,7 +53,8 @@ one-within-requires c κs = search needs
 -- … and so what `one_within` gives.
 small : (c : tie.After-one-within Inv-loop μ-loop) → c .one-within .result ≤ 1
 small c =
-    let args = c .before .before .before .before .before .before .before .before .args in
+    let c₅ = c .before .before .before .before .before in
+    let args = c₅ .before .before .before .args in
     at-most-one (leb (c .before .high-quotient .result) (args .limit)) _ (c .one-within .ensures)
 
 add-count : tie.Need-add-count Inv-loop μ-loop

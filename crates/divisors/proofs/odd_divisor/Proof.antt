@@ -27,7 +27,8 @@ turned {from} {p} {d} more left h = record {
   three = omega (arith, h .three);
   odd = omega (arith, h .odd);
   fits = more;
-  clear = λ k lo odd hi divides. by-cases (ℕ-discrete k d) (λ e. left (mod-eq-zero-of-dvd d (rw e at divides))) (λ ne. h .clear k lo odd (omega (arith, h .odd)) divides);
+  clear = λ k lo odd hi divides. by-cases (ℕ-discrete k d) (λ e. left (mod-eq-zero-of-dvd d (rw e at divides)))
+      (λ ne. h .clear k lo odd (omega (arith, h .odd)) divides);
 }
 
 -- The square of a number of 32 bits has at most 64.
@@ -43,7 +44,12 @@ ended : {from p d : ℕ} → p < d * d → Tried from p d → (k : ℕ) → ¬ O
 ended {from} {p} {d} last h k divisor = h .clear k (divisor .above) (divisor .odd) below (divisor .divides)
   where
     below : k < d
-    below = by-cases (decLt k d) (λ less. less) (λ above. absurd (omega (arith, divisor .square, mul-le-mul {n₁ = d} {m₁ = d} {n₂ = k} {m₂ = k} (omega arith) (omega arith))))
+    below = by-cases (decLt k d) (λ less. less) (λ above. absurd (omega (
+      arith,
+      divisor .square,
+      mul-le-mul {n₁ = d} {m₁ = d} {n₂ = k} {m₂ = k} (omega arith)
+          (omega arith),
+    )))
 
 abbrev Inv-loop : tie.InvT-loop
 Inv-loop p from d₀ d = Tried from p d

@@ -70,8 +70,17 @@ loop-less c = search needs
 
 loop-again : tie.Need-loop-again Inv-loop μ-loop
 loop-again c =
-    let inv = c .before .before .before .before .loop .inv in
-    (omega arith, (omega arith, (simp length-set (inv .1 .1 .0), cleared-more _ _ _ _ _ _ _ _ _ _ (inv .1 .1 .1) (omega arith) (omega arith) (c .before .mul-mod .ensures) (c .less-row .ensures))))
+    let inv = c .before .before .before .before .loop .inv in (
+      omega arith,
+      (
+        omega arith,
+        (
+          simp length-set (inv .1 .1 .0),
+          cleared-more _ _ _ _ _ _ _ _ _ _ (inv .1 .1 .1) (omega arith) (omega arith)
+              (c .before .mul-mod .ensures) (c .less-row .ensures),
+        ),
+      ),
+    )
 
 returns : tie.Need-returns Inv-loop μ-loop
 returns c =

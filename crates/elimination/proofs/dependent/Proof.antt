@@ -22,8 +22,16 @@ pivot-row-requires c κs = search needs
 
 step-requires : tie.Need-step-requires Inv-loop μ-loop
 step-requires c κs =
-    let s = c .before .before .before in
-    (s .before .pre .0, (s .loop .inv .below, (c .before .pivot-row .ensures .low, (omega arith, (omega arith, (omega arith, (omega arith, c .before .pivot-row .ensures .found (omega arith))))))))
+    let s = c .before .before .before in (
+      s .before .pre .0,
+      (
+        s .loop .inv .below,
+        (
+          c .before .pivot-row .ensures .low,
+          (omega arith, (omega arith, (omega arith, (omega arith, c .before .pivot-row .ensures .found (omega arith))))),
+        ),
+      ),
+    )
 
 add-r : tie.Need-add-r Inv-loop μ-loop
 add-r c = search needs

@@ -65,8 +65,17 @@ loop-less c = search needs
 
 loop-again : tie.Need-loop-again Inv-loop μ-loop
 loop-again c =
-    let inv = c .before .before .before .loop .inv in
-    (omega arith, (omega arith, (simp length-set (inv .1 .1 .0), row-less-more _ _ _ _ _ _ _ _ _ (inv .1 .1 .1) (omega arith) (c .before .mul-mod .ensures) (c .sub-mod .ensures))))
+    let inv = c .before .before .before .loop .inv in (
+      omega arith,
+      (
+        omega arith,
+        (
+          simp length-set (inv .1 .1 .0),
+          row-less-more _ _ _ _ _ _ _ _ _ (inv .1 .1 .1) (omega arith) (c .before .mul-mod .ensures)
+              (c .sub-mod .ensures),
+        ),
+      ),
+    )
 
 returns : tie.Need-returns Inv-loop μ-loop
 returns c =

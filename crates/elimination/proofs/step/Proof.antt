@@ -14,7 +14,8 @@ add-if1 c = search needs
 returns : tie.Need-returns
 returns c =
     let s = c .before in
-    stepped-last _ (s .pre .0) _ _ _ _ _ _ (omega arith) (omega arith) (c .if1 .taken) (omega arith) (s .pre .1 .1 .1 .1 .1 .1 .1) (s .pre .1 .0 _ _) (s .pre .1 .0)
+    stepped-last _ (s .pre .0) _ _ _ _ _ _ (omega arith) (omega arith) (c .if1 .taken) (omega arith) (s .pre .1 .1 .1 .1 .1 .1 .1) (s .pre .1 .0 _ _)
+    (s .pre .1 .0)
 
 mul-inverse-mod : tie.Need-mul-inverse-mod
 unfolding most-rows
@@ -53,8 +54,11 @@ swap-rows-requires c κs = search needs
 
 clear-below-requires : tie.Need-clear-below-requires
 clear-below-requires c κs =
-    let s = c .before .before .before .before .before .before .before in
-    (exchanged-below _ (s .args .t1) (s .args .r) (s .args .k) (c .swap-rows .result) (c .swap-rows .ensures) (s .pre .1 .0), (omega arith, (omega arith, (omega arith, omega arith))))
+    let c₅ = c .before .before .before .before .before in
+    let s = c₅ .before .before in (
+      exchanged-below _ (s .args .t1) (s .args .r) (s .args .k) (c .swap-rows .result) (c .swap-rows .ensures) (s .pre .1 .0),
+      (omega arith, (omega arith, (omega arith, omega arith))),
+    )
 
 returns-3 : tie.Need-returns-3
 returns-3 c =

@@ -34,7 +34,12 @@ array-share-prefix-problem c =
 slice-aggregate-with-problem : tie.Need-slice-aggregate-with-problem
 slice-aggregate-with-problem c =
     let start = c .before .before .before .before .before in
-    part-length (c .before .before .n .given .0 .0) (start .load .last .1 .0) (omega (arith, within-bytes _ (c .before .before .n .given .0 .0) (start .load .result) (start .load .ensures) (c .before .before .n .given .1), start .load .kept .1 .0))
+    part-length (c .before .before .n .given .0 .0) (start .load .last .1 .0)
+    (omega (
+      arith,
+      within-bytes _ (c .before .before .n .given .0 .0) (start .load .result) (start .load .ensures) (c .before .before .n .given .1),
+      start .load .kept .1 .0,
+    ))
 
 with-problem-requires : tie.Need-with-problem-requires
 with-problem-requires c κs = search needs

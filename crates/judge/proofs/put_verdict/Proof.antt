@@ -20,10 +20,12 @@ same-length c = search needs
 
 returns : tie.Need-returns
 returns c =
+    let c₅ = c .before .before .before .before .before in
     let line = c .before .before .line in
     let four = c .before .before .before .before .numbers in
     let judged = c .before .before .before .before .before .judge-files in
-    subst (Appended (c .before .before .before .before .before .before .before .before .before .args .out .now) (line .last .1 .0) 0 (line .result)) (ap line-of (four .ensures ∙ ap numbers (judged .ensures))) (line .ensures)
+    subst (Appended (c₅ .before .before .before .before .args .out .now) (line .last .1 .0) 0 (line .result))
+    (ap line-of (four .ensures ∙ ap numbers (judged .ensures))) (line .ensures)
 
 pub put-verdict-spec : {M : Type 1} → statement M
 put-verdict-spec =

@@ -18,7 +18,8 @@ put-text-requires c κs = search needs
 
 put-number-requires : tie.Need-put-number-requires
 put-number-requires c κs =
-    let start = c .before .before .before .before .before .before .before .before .before in
+    let c₅ = c .before .before .before .before .before in
+    let start = c₅ .before .before .before .before in
     let word = c .before .before .before .put-text .ensures in
     omega (arith, digits-word (start .args .v .at) (omega arith), start .pre, word .ends, word .same-length)
 
@@ -27,8 +28,10 @@ slice-aggregate-put-text-2 c = search needs
 
 put-text-requires-2 : tie.Need-put-text-requires-2
 put-text-requires-2 c κs =
-    let start = c .before .before .before .before .before .before .before .before .before .before .before .before .before .before in
-    let word = c .before .before .before .before .before .before .before .before .put-text .ensures in
+    let c₅ = c .before .before .before .before .before in
+    let c₁₀ = c₅ .before .before .before .before .before in
+    let start = c₁₀ .before .before .before .before in
+    let word = c₅ .before .before .before .put-text .ensures in
     let number = c .before .before .before .before .put-number .ensures in
     omega (
       arith,
@@ -45,7 +48,8 @@ same-length c = search needs
 
 returns : tie.Need-returns
 returns c =
-    let d = c .before .before .before .before .before .before .before in
+    let c₅ = c .before .before .before .before .before in
+    let d = c₅ .before .before in
     let test = d .before .before .before .before .before .before .before in
     let a = test .before .before .before .args in
     let word = d .before .before .before .before .put-text in
@@ -54,7 +58,8 @@ returns c =
     let v = four (a .v .code) (a .v .file) (a .v .number) (a .v .at) in
     subst (Appended (a .out .now) (last .last .0) 0 (last .result)) (sym (line-passed v (test .if1 .taken)))
     (appended-both (a .out .now) (number .last .0) (last .last .0) 0 (number .result) (last .result) _ (10 ∷ [])
-    (appended-both (a .out .now) (word .last .0) (number .last .0) 0 (word .result) (number .result) pass-word (digits (v .at)) (word .ensures) (number .ensures))
+    (appended-both (a .out .now) (word .last .0) (number .last .0) 0 (word .result) (number .result) pass-word (digits (v .at)) (word .ensures)
+    (number .ensures))
     (last .ensures))
 
 slice-aggregate-put-text-3 : tie.Need-slice-aggregate-put-text-3
@@ -71,9 +76,11 @@ slice-aggregate-put-text-4 c = search needs
 
 put-text-requires-4 : tie.Need-put-text-requires-4
 put-text-requires-4 c κs =
-    let start = c .before .before .before .before .before .before .before .before .before .before .before .before .before .before in
+    let c₅ = c .before .before .before .before .before in
+    let c₁₀ = c₅ .before .before .before .before .before in
+    let start = c₁₀ .before .before .before .before in
     let v = start .args .v in
-    let word = c .before .before .before .before .before .before .before .before .put-text3 .ensures in
+    let word = c₅ .before .before .before .put-text3 .ensures in
     let numbers = c .before .before .before .before .put-numbers .ensures in
     omega (
       arith,
@@ -90,7 +97,8 @@ same-length-2 c = search needs
 
 returns-2 : tie.Need-returns-2
 returns-2 c =
-    let d = c .before .before .before .before .before .before .before in
+    let c₅ = c .before .before .before .before .before in
+    let d = c₅ .before .before in
     let test = d .before .before .before .before .before .before .before in
     let a = test .before .before .before .args in
     let word = d .before .before .before .before .put-text3 in
@@ -99,7 +107,8 @@ returns-2 c =
     let v = four (a .v .code) (a .v .file) (a .v .number) (a .v .at) in
     subst (Appended (a .out .now) (last .last .0) 0 (last .result)) (sym (line-refused v (test .if1 .left)))
     (appended-both (a .out .now) (numbers .last .0) (last .last .0) 0 (numbers .result) (last .result) _ (10 ∷ [])
-    (appended-both (a .out .now) (word .last .0) (numbers .last .0) 0 (word .result) (numbers .result) refuse-word (four-numbers v) (word .ensures) (numbers .ensures))
+    (appended-both (a .out .now) (word .last .0) (numbers .last .0) 0 (word .result) (numbers .result) refuse-word (four-numbers v) (word .ensures)
+    (numbers .ensures))
     (last .ensures))
 
 pub line-spec : {M : Type 1} → statement M

@@ -12,7 +12,8 @@ use Rattle.line.proofs.put_numbers.Tie as tie
 
 -- The four numbers are within their room.
 within : (c : tie.After-struct-known)
-    → length (four-numbers (four (c .before .before .before .args .v .code) (c .before .before .before .args .v .file) (c .before .before .before .args .v .number) (c .before .before .before .args .v .at))) ≤ numbers-room
+    → length (four-numbers (four (c .before .before .before .args .v .code) (c .before .before .before .args .v .file)
+    (c .before .before .before .args .v .number) (c .before .before .before .args .v .at))) ≤ numbers-room
 within c = four-numbers-length _ _ _ _ (omega arith) (omega arith) (omega arith) (omega arith)
 
 cast-put-number : tie.Need-cast-put-number
@@ -74,15 +75,19 @@ same-length c = search needs
 
 returns : tie.Need-returns
 returns c =
-    let d = c .before .before .before .before .before .before in
+    let c₅ = c .before .before .before .before .before in
+    let d = c₅ .before in
     let a = d .before .before .before .before .before .before .before .before .before .before .before .before .before .before .args in
     let one = d .before .before .before .before .before .before .before .before .before .before .put-number in
     let two = d .before .before .before .before .before .put-spaced in
     let three = d .put-spaced2 in
     let last = c .before .before .put-spaced3 in
-    let x = appended-both (a .out .now) (one .last .0) (two .last .0) (a .at) (one .result) (two .result) (digits (a .v .code)) (space ++ digits (a .v .file)) (one .ensures) (two .ensures) in
-    let y = appended-both (a .out .now) (two .last .0) (three .last .0) (a .at) (two .result) (three .result) _ (space ++ digits (a .v .number)) x (three .ensures) in
-    appended-both (a .out .now) (three .last .0) (last .last .0) (a .at) (three .result) (last .result) _ (space ++ digits (a .v .at)) y (last .ensures)
+    let x = appended-both (a .out .now) (one .last .0) (two .last .0) (a .at) (one .result) (two .result) (digits (a .v .code))
+    (space ++ digits (a .v .file)) (one .ensures) (two .ensures) in
+    let y = appended-both (a .out .now) (two .last .0) (three .last .0) (a .at) (two .result) (three .result) _ (space ++ digits (a .v .number)) x
+    (three .ensures) in
+    appended-both (a .out .now) (three .last .0) (last .last .0) (a .at) (three .result) (last .result) _ (space ++ digits (a .v .at)) y
+    (last .ensures)
 
 pub put-numbers-spec : {M : Type 1} → statement M
 put-numbers-spec =

@@ -18,9 +18,11 @@ same-length c = search needs
 
 returns : tie.Need-returns
 returns c =
-    let a = c .before .before .before .before .before .before .before .before .before .before .args in
-    let first = c .before .before .before .before .before .before .put-text in
-    appended-both (a .out .now) (first .last .0) (c .before .before .put-number .last .0) (a .at) (first .result) (c .before .before .put-number .result)
+    let c₅ = c .before .before .before .before .before in
+    let a = c₅ .before .before .before .before .before .args in
+    let first = c₅ .before .put-text in
+    appended-both (a .out .now) (first .last .0) (c .before .before .put-number .last .0) (a .at) (first .result)
+    (c .before .before .put-number .result)
     space (digits (a .n)) (first .ensures) (c .before .before .put-number .ensures)
 
 pub put-spaced-spec : {M : Type 1} → statement M

@@ -33,7 +33,12 @@ one-if-nonzero-requires c κs = search needs
 
 add-n : tie.Need-add-n Inv-loop μ-loop
 unfolding most-power most-rows most-length
-add-n c = omega (arith, c .one-if-nonzero .ensures, counted-le (getD (c .before .before .before .before .args .t1 .coefficients) (c .before .before .before .loop .k) 0))
+add-n c = omega (
+  arith,
+  c .one-if-nonzero .ensures,
+  counted-le (getD (c .before .before .before .before .args .t1 .coefficients)
+      (c .before .before .before .loop .k) 0),
+)
 
 add-k : tie.Need-add-k Inv-loop μ-loop
 add-k c = omega arith

@@ -15,7 +15,8 @@ clear-second c = range-both (clear-first (c .before .before .before)) (c .before
 clear-third : (c : tie.Else8) → NoPrime 3 14767 (c .before .before .before .before .before .before .before .before .before .before .before .args .p)
 clear-third c = range-both (clear-second (c .before .before .before)) (c .before .divides3 .ensures .none (c .if8 .left))
 
-clear-fourth : (c : tie.Else10) → NoPrime 3 46457 (c .before .before .before .before .before .before .before .before .before .before .before .before .before .before .args .p)
+clear-fourth : (c : tie.Else10) → NoPrime 3 46457
+    (c .before .before .before .before .before .before .before .before .before .before .before .before .before .before .args .p)
 clear-fourth c = range-both (clear-third (c .before .before .before)) (c .before .divides4 .ensures .none (c .if10 .left))
 
 returns : tie.Need-returns
@@ -28,7 +29,8 @@ odd-divisor-requires : tie.Need-odd-divisor-requires
 odd-divisor-requires c κs = search needs
 
 returns-3 : tie.Need-returns-3
-returns-3 c = test-of-rest 3 _ _ (omega arith) (omega arith) (λ d prime lo hi. absurd (omega arith)) (sifted-of-odd 3 _ _ (omega arith) (c .odd-divisor .ensures))
+returns-3 c = test-of-rest 3 _ _ (omega arith) (omega arith) (λ d prime lo hi. absurd (omega arith))
+    (sifted-of-odd 3 _ _ (omega arith) (c .odd-divisor .ensures))
 
 divides-requires : tie.Need-divides-requires
 divides-requires c κs = search needs

@@ -95,7 +95,8 @@ put-number-slice-write-out-2 : (t : ℕ) → put-number-lts.Need-slice-write-out
   put-number.Post,
 ) (put-number-at t) put-number.Post
 put-number-slice-write-out-2 t c =
-    let start = c .before .before .before .before .before .before in
+    let c₅ = c .before .before .before .before .before in
+    let start = c₅ .before in
     let a = start .args in
     let e = c .before .before .put-number .ensures in
     let large = c .before .before .before .before .if1 .left in
@@ -106,7 +107,8 @@ put-number-add-result-2 : (t : ℕ) → put-number-lts.Need-add-result-2 (
   put-number.Post,
 ) (put-number-at t) put-number.Post
 put-number-add-result-2 t c =
-    let start = c .before .before .before .before .before .before in
+    let c₅ = c .before .before .before .before .before in
+    let start = c₅ .before in
     let a = start .args in
     let e = c .before .before .put-number .ensures in
     let large = c .before .before .before .before .if1 .left in
@@ -123,7 +125,8 @@ put-number-returns-2 : (t : ℕ) → put-number-lts.Need-returns-2 (
   put-number.Post,
 ) (put-number-at t) put-number.Post
 put-number-returns-2 t c =
-    let start = c .before .before .before .before .before .before in
+    let c₅ = c .before .before .before .before .before in
+    let start = c₅ .before in
     let a = start .args in
     let e = c .before .before .put-number .ensures in
     let large = c .before .before .before .before .if1 .left in

@@ -17,7 +17,11 @@ abbrev μ-loop : tie.MeasureT-loop
 μ-loop out₀ at text i₀ out i = length text - i
 
 loop-holds : tie.Need-loop-holds Inv-loop μ-loop
-loop-holds c = (zero-le, subst (λ e. Appended (c .args .out .now) (c .args .out .now) (c .args .at) e []) (sym (add-zero (c .args .at))) (appended-nothing (c .args .out .now) (c .args .at)))
+loop-holds c = (
+  zero-le,
+  subst (λ e. Appended (c .args .out .now) (c .args .out .now) (c .args .at) e []) (sym (add-zero (c .args .at)))
+      (appended-nothing (c .args .out .now) (c .args .at)),
+)
 
 shared-slice-read-out : tie.Need-shared-slice-read-out Inv-loop μ-loop
 shared-slice-read-out c = search needs

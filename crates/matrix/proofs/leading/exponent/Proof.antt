@@ -15,7 +15,8 @@ unfolding most-length
 returns c = sym (exponent-negative (c .before .args .power) (below-zero-back (c .before .fits .power) ∙ c .if1 .taken))
 
 returns-2 : tie.Need-returns-2
-returns-2 c = ap natAbs (back (c .before .fits .power)) ∙ sym (exponent-natAbs (c .before .args .power) (below-zero-back (c .before .fits .power) ∙ c .if1 .left))
+returns-2 c = ap natAbs (back (c .before .fits .power)) ∙ sym (exponent-natAbs (c .before .args .power)
+    (below-zero-back (c .before .fits .power) ∙ c .if1 .left))
 
 pub exponent-spec : {M : Type 1} → statement M
 exponent-spec = tie.close (tie.spec cast-result returns returns-2)

@@ -42,13 +42,17 @@ loop-less c = search needs
 loop-again : tie.Need-loop-again Inv-loop μ-loop
 unfolding most-rows
 loop-again c =
-    let at = c .before .before .before in
-    (search needs, filled-more [] zero-row most-rows _ (at .loop .i) (at .loop .rows) (c .leading-row .result) (at .loop .inv .1) (omega arith) (c .leading-row .ensures))
+    let at = c .before .before .before in (
+      search needs,
+      filled-more [] zero-row most-rows _ (at .loop .i) (at .loop .rows) (c .leading-row .result) (at .loop .inv .1) (omega arith)
+          (c .leading-row .ensures),
+    )
 
 returns : tie.Need-returns Inv-loop μ-loop
 returns c =
     let s = c .before .before .before in
-    filled-array (s .args .head .m) (leading-number (s .args .entries .now) (s .args .lengths .now) (s .args .head .shifts) (s .args .head .m)) (c .before .before .loop .inv .1) (omega arith)
+    filled-array (s .args .head .m) (leading-number (s .args .entries .now) (s .args .lengths .now) (s .args .head .shifts) (s .args .head .m))
+    (c .before .before .loop .inv .1) (omega arith)
 
 pub leading-matrix-spec : {M : Type 1} → statement M
 leading-matrix-spec =

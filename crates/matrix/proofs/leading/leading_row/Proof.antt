@@ -37,7 +37,8 @@ returns : tie.Need-returns Inv-loop μ-loop
 unfolding most-rows table zero-row
 returns c =
     let s = c .before .before .before in
-    sym (row-of-zeros (s .args .t1 .m) (leading-number (s .args .entries .now) (s .args .lengths .now) (s .args .t1 .shifts) (s .args .t1 .m) (s .args .i)) (λ j.
+    sym (row-of-zeros (s .args .t1 .m) (leading-number (s .args .entries .now) (s .args .lengths .now) (s .args .t1 .shifts) (s .args .t1 .m) (s .args .i))
+    (λ j.
     leading-none (s .args .entries .now) (s .args .lengths .now) (s .args .t1 .shifts) (s .args .t1 .m) (s .args .i) j
     (sym (c .before .before .row-degree .ensures) ∙ ap degree-meant (c .enum-told .given .1))))
 
@@ -55,7 +56,9 @@ element-copy-out-minus c = search needs
 
 -- What the function was called with, and the row's degree as it is read back.
 abbrev start : tie.After-minus-arg Inv-loop μ-loop → tie.Start Inv-loop μ-loop
-start c = c .before .before .before .before .before .before .before
+start c =
+    let c₅ = c .before .before .before .before .before in
+    c₅ .before .before
 
 abbrev row : tie.After-minus-arg Inv-loop μ-loop → ℤ
 row c = toZ w32 (ofZ w32 (c .before .before .before .before .degree .given .0 .0))
@@ -63,9 +66,10 @@ row c = toZ w32 (ofZ w32 (c .before .before .before .before .degree .given .0 .0
 row-is : (c : tie.After-minus-arg Inv-loop μ-loop)
     → row-degree-of (start c .args .t1 .m) (length-at (start c .args .lengths .now) (start c .args .i)) (shift-at (start c .args .t1 .shifts)) ≡ some (row c)
 row-is c =
+    let c₅ = c .before .before .before .before .before in
     let known = c .before .before .before .before .degree .given in
     let row-back : row c ≡ known .0 .0 = search needs in
-    sym (c .before .before .before .before .before .before .row-degree .ensures) ∙ ap degree-meant (known .1) ∙ ap some (sym row-back)
+    sym (c₅ .before .row-degree .ensures) ∙ ap degree-meant (known .1) ∙ ap some (sym row-back)
 
 minus-requires : tie.Need-minus-requires Inv-loop μ-loop
 minus-requires c κs =
@@ -94,7 +98,8 @@ loop-less c = search needs
 -- The number that is stored in a turn.
 stored : (c : tie.After-entry-at Inv-loop μ-loop)
     → c .entry-at .result
-    ≡ leading-number (start (c .before .before) .args .entries .now) (start (c .before .before) .args .lengths .now) (start (c .before .before) .args .t1 .shifts)
+    ≡ leading-number (start (c .before .before) .args .entries .now) (start (c .before .before) .args .lengths .now)
+    (start (c .before .before) .args .t1 .shifts)
     (start (c .before .before) .args .t1 .m) (start (c .before .before) .args .i) (c .before .before .before .before .loop .j)
 stored c =
     let called = c .before .before in
@@ -115,8 +120,10 @@ loop-again c =
 
 returns-2 : tie.Need-returns-2 Inv-loop μ-loop
 returns-2 c =
-    let s = c .before .before .before .before .before .before in
-    filled-row (leading-number (s .args .entries .now) (s .args .lengths .now) (s .args .t1 .shifts) (s .args .t1 .m) (s .args .i)) (c .before .loop .inv .1) (omega arith)
+    let c₅ = c .before .before .before .before .before in
+    let s = c₅ .before in
+    filled-row (leading-number (s .args .entries .now) (s .args .lengths .now) (s .args .t1 .shifts) (s .args .t1 .m) (s .args .i)) (c .before .loop .inv .1)
+    (omega arith)
 
 pub leading-row-spec : {M : Type 1} → statement M
 leading-row-spec =

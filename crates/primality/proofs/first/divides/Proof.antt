@@ -18,7 +18,8 @@ divisor-among-requires c κs = table-of-rows _ _ tt refl
 
 returns : tie.Need-returns
 unfolding both divisors composite composites gap covers
-returns c = sifted-of-found 317 3 _ _ _ _ tt refl (omega arith) (c .before .before .before .pre) (divisor-among-requires (c .before) (c .divisor-among .lifetimes)) (c .divisor-among .ensures)
+returns c = sifted-of-found 317 3 _ _ _ _ tt refl (omega arith) (c .before .before .before .pre)
+    (divisor-among-requires (c .before) (c .divisor-among .lifetimes)) (c .divisor-among .ensures)
 
 pub divides-spec : {M : Type 1} → statement M
 divides-spec = tie.close (tie.spec slice-aggregate-divisor-among slice-aggregate-divisor-among-2 divisor-among-requires returns)
