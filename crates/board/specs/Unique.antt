@@ -5,6 +5,7 @@ use mathlib.Core.Path.{_≡_, sym, _∙_}
 use mathlib.Core.List.{List}
 use Prim.Native.Nat.{ℕ}
 use Rattle.rules.specs.Verdict.{numbers, packed, verdict}
+use Rattle.rules.specs.Reply.{reply-numbers}
 use Rattle.rules.specs.Evidence.{make-evidence}
 
 module _ (s t : List ℕ) where
@@ -12,7 +13,7 @@ module _ (s t : List ℕ) where
   judge-unique r r′ e e′ = e ∙ sym e′
 
   pub make-evidence-unique : (lent : List ℕ) (r r′ : ℕ) (b b′ : List ℕ)
-      → (r ≡ packed (numbers (make-evidence s t lent .answer))) × (b ≡ make-evidence s t lent .buffer)
-      → (r′ ≡ packed (numbers (make-evidence s t lent .answer))) × (b′ ≡ make-evidence s t lent .buffer)
+      → (r ≡ packed (reply-numbers (make-evidence s t lent .answer))) × (b ≡ make-evidence s t lent .buffer)
+      → (r′ ≡ packed (reply-numbers (make-evidence s t lent .answer))) × (b′ ≡ make-evidence s t lent .buffer)
       → (r ≡ r′) × (b ≡ b′)
   make-evidence-unique lent r r′ b b′ h h′ = (h .0 ∙ sym (h′ .0), h .1 ∙ sym (h′ .1))

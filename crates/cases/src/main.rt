@@ -10,6 +10,7 @@ ghost use Rattle.cases.specs.Limits.{longest, most-lent, chunk, most-dig
 use libc::STDOUT_FILENO;
 use verdict::Four;
 use verdict::numbers;
+use verdict::reply_numbers;
 use writer::put_number;
 use writer::put_text;
 
@@ -128,7 +129,7 @@ fn write_part(part: &[u8])
 
 // The line for the evidence that is made in the bytes lent.
 fn write_evidence(problem: &[u8], answer: &[u8], lent: &mut [u8]) {
-    let v = numbers(making::evidence_files(problem, answer, lent));
+    let v = reply_numbers(making::evidence_files(problem, answer, lent));
     let mut space = [0u8; HEAD];
     let head: &mut [u8] = &mut space;
     let word = put_text(head, 0, b"evidence");

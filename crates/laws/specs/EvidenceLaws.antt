@@ -25,10 +25,10 @@ use Rattle.rules.specs.Files.{answer-reader, claim-for, read-claim, read-basis}
 use Rattle.rules.specs.Matrices.{order, product}
 use Rattle.rules.specs.Conditions.{order-fault}
 use Rattle.laws.specs.Valid.{ValidProblem, ValidBasis, ValidAnswer}
-use Rattle.rules.specs.Verdict.{unread, no-room, written, numbers}
+use Rattle.rules.specs.Reply.{unread, no-room, written, reply-numbers, Made}
 use Rattle.rules.specs.Writer.{write-CE, write-answer}
 use Rattle.rules.specs.Table.{length-table, getD-table, table-all}
-use Rattle.rules.specs.Evidence.{Made, evidence-of, evidence-size, make-evidence}
+use Rattle.rules.specs.Evidence.{evidence-of, evidence-size, make-evidence}
 use Rattle.laws.specs.ByteNumbers.{AllBytes}
 use Rattle.laws.specs.ProductLaws.{no-order-fault-iff}
 use Rattle.laws.specs.BothFiles.{both-read}
@@ -187,6 +187,6 @@ module _ (s t lent : List ℕ) where
       ∙ omega (arith, length-evidence (c .0) (c .1), length-drop (evidence-size (c .0)) lent))
 
   -- "After a refusal every byte is as before."
-  pub evidence-kept : numbers (make-evidence s t lent .answer) .code ≢ 0 → make-evidence s t lent .buffer ≡ lent
-  unfolding numbers
-  evidence-kept = evidence-cases (λ x. numbers (x .answer) .code ≢ 0 → x .buffer ≡ lent) (λ r e ne. refl) (λ c q e h ne. refl) (λ c q e h ne. absurd (ne refl))
+  pub evidence-kept : reply-numbers (make-evidence s t lent .answer) .code ≢ 0 → make-evidence s t lent .buffer ≡ lent
+  unfolding reply-numbers
+  evidence-kept = evidence-cases (λ x. reply-numbers (x .answer) .code ≢ 0 → x .buffer ≡ lent) (λ r e ne. refl) (λ c q e h ne. refl) (λ c q e h ne. absurd (ne refl))

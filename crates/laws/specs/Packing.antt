@@ -4,29 +4,29 @@
 --   packed-below, packed-injective     such numbers are one number below 2 ^ 64, and can be told from it
 use mathlib.Core.Path.{_≡_, refl, sym, ap, _∙_}
 use mathlib.Core.Bool.{Bool, true, false}
-use mathlib.Core.List.{List, _++_}
+use mathlib.Core.List.{List}
 use mathlib.Core.Option.{Option, none, some, Option·some-injective, Option·none-ne-some}
-use Prim.Native.Nat.{ℕ, _+_, _-_, _*_, _%_, _^_, _≤_, _<_, zero-le}
+use Prim.Native.Nat.{ℕ, _+_, _*_, _%_, _^_, _≤_, _<_, zero-le}
 use native.Mathlib.Nat.{le-refl, mul-le-mul, add-mul-mod-self-left, mod-eq-of-lt, eq-of-mul-eq-mul-left}
 use native.Mathlib.Omega.{arith}
-use lib.Dec.{leb}
 use lib.IntN.{ℤ, pos, negsuc, natAbs, negℤ}
-use lib.ListN.{length, drop}
+use lib.ListN.{length}
 use Rattle.algebra.specs.Integer.{Integers, natAbs-add, natAbs-neg}
 use Rattle.algebra.specs.Sum.{sum}
 use Rattle.rules.specs.Sizes.{most-rows, most-order, most-shift, most-length}
 use Rattle.rules.specs.Reader.{Result, Refusal, refused, got}
 use Rattle.rules.specs.Claim.{Problem, Claim}
-use Rattle.rules.specs.Files.{read-claim, read-basis}
+use Rattle.rules.specs.Files.{read-claim}
 use Rattle.laws.specs.Valid.{ValidProblem, ValidBasis, Valid}
 use Rattle.rules.specs.Matrices.{shift, at}
 use Rattle.rules.specs.Conditions.{shifted-degree-of, row-degree-of, row-degree, total, less, degree-sum-of, degree-sum, reduced, monomial-determinant}
 use Rattle.rules.specs.Conditions.{rank-below, low-fault, order-fault}
 use Rattle.rules.specs.Conditions.{first-place}
-use Rattle.rules.specs.Verdict.{Numbers, passed, unread, not-reduced, not-monomial, below-order, at-order, low-rank, no-room, written, four, numbers}
+use Rattle.rules.specs.Verdict.{Numbers, unread, not-reduced, not-monomial, below-order, at-order, low-rank, four, refusal-numbers, numbers}
 use Rattle.rules.specs.Verdict.{natural, pass-with, by-rank, by-product, judge-claim, verdict, packed}
-use Rattle.rules.specs.Evidence.{Made, make-evidence, evidence-size, evidence-of}
-use Rattle.rules.specs.Writer.{write-CE}
+use Rattle.rules.specs.Reply.{reply-numbers}
+use Rattle.rules.specs.Evidence.{make-evidence, evidence-size}
+use Rattle.laws.specs.EvidenceLaws.{evidence-cases}
 use Rattle.laws.specs.BoolLaws.{cond-cases}
 use Rattle.laws.specs.DegreeLaws.{shifted-is}
 use Rattle.laws.specs.Magnitudes.{natAbs-largest, natAbs-sum, natAbs-total}
@@ -155,8 +155,8 @@ module _ (c : Claim) (valid : Valid c) where
       first true false = record { code = omega arith; file = omega arith; number = omega arith; at = omega arith }
       first true true = by-product-fits
 
-unread-fits : (s t : List ℕ) (r : Refusal) → Placed s t r → Fits (numbers (unread r))
-unfolding numbers most-rows most-length longest-PE longest-basis longest-answer
+unread-fits : (s t : List ℕ) (r : Refusal) → Placed s t r → Fits (refusal-numbers r)
+unfolding most-rows most-length longest-PE longest-basis longest-answer
 unread-fits s t r h =
     record { code = omega (arith, h .code-most); file = omega (arith, h .file); number = omega (arith, h .number); at = omega (arith, h .at-most) }
 
@@ -166,7 +166,7 @@ evidence-size-below b valid = omega (arith, mul-le-mul (valid .rows-most) (valid
 
 -- The numbers of every verdict.
 pub numbers-fit : (s t : List ℕ) → Fits (numbers (verdict s t))
-unfolding verdict
+unfolding verdict numbers
 numbers-fit s t = by-result (read-claim s t) refl
   where
     by-result : (x : Result Claim) → read-claim s t ≡ x → Fits (numbers (elim x [ refused r ↦ unread r | got c q ↦ judge-claim c ]))
@@ -174,24 +174,11 @@ numbers-fit s t = by-result (read-claim s t) refl
     by-result (got c q) e = judged-fits c (claim-valid s t e)
 
 -- The numbers of every answer of a service that makes evidence.
-pub evidence-fit : (s t lent : List ℕ) → Fits (numbers (make-evidence s t lent .answer))
-unfolding make-evidence numbers
-evidence-fit s t lent = by-result (read-basis s t) refl
+pub evidence-fit : (s t lent : List ℕ) → Fits (reply-numbers (make-evidence s t lent .answer))
+unfolding reply-numbers
+evidence-fit s t lent = evidence-cases s t lent (λ x. Fits (reply-numbers (x .answer))) (λ r e. unread-fits s t r (basis-refused s t r e))
+    (λ c q e h. bytes-fit 14 (c .0) (omega arith) (read-basis-valid s t e .0))
+    (λ c q e h. bytes-fit 0 (c .0) (omega arith) (read-basis-valid s t e .0))
   where
-    by-room : (b : Problem) (P : List (List (List ℕ))) → ValidProblem b → (room : Bool) → Fits (numbers ((elim room as (λ x. Made) [
-      | false ↦ record { answer = no-room (evidence-size b); buffer = lent }
-      | true ↦ record { answer = written (evidence-size b); buffer = write-CE (evidence-of b P) ++ drop (evidence-size b) lent }
-    ]) .answer))
-    by-room b P valid false = record { code = omega arith; file = omega arith; number = omega arith; at = evidence-size-below b valid }
-    by-room b P valid true = record { code = omega arith; file = omega arith; number = omega arith; at = evidence-size-below b valid }
-
-    by-result : (x : Result (Problem × List (List (List ℕ)))) → read-basis s t ≡ x → Fits (numbers ((elim x as (λ x. Made) [
-      | refused r ↦ record { answer = unread r; buffer = lent }
-      | got c q ↦
-          elim (leb (evidence-size (c .0)) (length lent)) [
-            | false ↦ record { answer = no-room (evidence-size (c .0)); buffer = lent }
-            | true ↦ record { answer = written (evidence-size (c .0)); buffer = write-CE (evidence-of (c .0) (c .1)) ++ drop (evidence-size (c .0)) lent }
-          ]
-    ]) .answer))
-    by-result (refused r) e = unread-fits s t r (basis-refused s t r e)
-    by-result (got c q) e = by-room (c .0) (c .1) (read-basis-valid s t e .0) (leb (evidence-size (c .0)) (length lent))
+    bytes-fit : (code : ℕ) (b : Problem) → code < 256 → ValidProblem b → Fits (four code 0 0 (evidence-size b))
+    bytes-fit code b h valid = record { code = h; file = omega arith; number = omega arith; at = evidence-size-below b valid }

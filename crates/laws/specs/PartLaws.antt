@@ -23,7 +23,7 @@ use Rattle.rules.specs.Files.{read-claim}
 use Rattle.rules.specs.Matrices.{order}
 use Rattle.rules.specs.Conditions.{sum-below}
 use Rattle.laws.specs.Valid.{ValidProblem, ValidAnswer}
-use Rattle.rules.specs.Verdict.{Verdict, passed, unread, not-reduced, not-monomial, below-order, at-order, low-rank, no-room, written, numbers}
+use Rattle.rules.specs.Verdict.{Verdict, passed, unread, not-reduced, not-monomial, below-order, at-order, low-rank, numbers}
 use Rattle.rules.specs.Verdict.{judge-claim, verdict}
 use Rattle.rules.specs.Writer.{write-each, write-PR, write-OR, write-SH, write-FC, write-CE, write-problem, write-basis, write-answer}
 use Rattle.rules.specs.Evidence.{evidence-size}
@@ -116,8 +116,6 @@ claim-front t b not-monomial below-not at-not = refl
 claim-front t b (below-order i j) below-not at-not = absurd (below-not refl)
 claim-front t b (at-order i j) below-not at-not = absurd (at-not refl)
 claim-front t b low-rank below-not at-not = refl
-claim-front t b (no-room k) below-not at-not = refl
-claim-front t b (written k) below-not at-not = refl
 
 length-cond : (b : Bool) (s t : List ℕ) → length (cond b s t) ≡ cond b (length s) (length t)
 length-cond true s t = refl
@@ -211,8 +209,6 @@ within-claim s t b not-monomial h hs ht = record { file = omega arith; inside = 
 within-claim s t b (below-order i j) h hs ht = record { file = omega arith; inside = hs j (h .1) }
 within-claim s t b (at-order i j) h hs ht = record { file = omega arith; inside = omega arith }
 within-claim s t b low-rank h hs ht = record { file = omega arith; inside = zero-le }
-within-claim s t b (no-room k) h hs ht = absurd h
-within-claim s t b (written k) h hs ht = absurd h
 
 module _ (s t : List ℕ) where
   within : Within s t (pointed-at s t)

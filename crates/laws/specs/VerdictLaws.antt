@@ -1,6 +1,6 @@
 -- Which verdicts two files can get.
 --   verdict-of-claim, verdict-of-refusal      the verdict on files that are read is that on the claim, and on others the refusal
---   Judged b v, judge-claim-judged, verdict-judged      a claim gets no refusal of reading and no answer of a service that writes, and a place in it
+--   Judged b v, judge-claim-judged, verdict-judged      a claim gets no refusal of reading, and a place in it
 --   code-of-refusal          codes 1 to 8 are given for files that are not read alone
 use mathlib.Core.Path.{_≡_, refl, sym, ap, subst}
 use mathlib.Core.Bool.{Bool, true, false}
@@ -13,7 +13,7 @@ use Rattle.rules.specs.Claim.{Problem, Claim}
 use Rattle.rules.specs.Reader.{Place, Refusal, Result, refused, got}
 use Rattle.rules.specs.Files.{read-claim}
 use Rattle.rules.specs.Conditions.{reduced, monomial-determinant, degree-sum, rank-below, low-fault, order-fault, first-place}
-use Rattle.rules.specs.Verdict.{Verdict, passed, unread, not-reduced, not-monomial, below-order, at-order, low-rank, no-room, written, numbers, pass-with}
+use Rattle.rules.specs.Verdict.{Verdict, passed, unread, not-reduced, not-monomial, below-order, at-order, low-rank, numbers, pass-with}
 use Rattle.rules.specs.Verdict.{by-rank, by-product, judge-claim, verdict}
 use Rattle.laws.specs.BoolLaws.{cond-cases}
 use Rattle.laws.specs.SearchLaws.{first-place-some}
@@ -40,8 +40,6 @@ Judged b not-monomial = Unit {0}
 Judged b (below-order i j) = (i < b .m) × (j < b .n)
 Judged b (at-order i j) = (i < b .m) × (j < b .n)
 Judged b low-rank = Unit {0}
-Judged b (no-room k) = ⊥
-Judged b (written k) = ⊥
 
 pass-judged : (b : Problem) (o : Option ℤ) → Judged b (pass-with o)
 pass-judged b none = tt
@@ -98,8 +96,6 @@ judged-code b not-monomial h least = omega arith
 judged-code b (below-order i j) h least = omega arith
 judged-code b (at-order i j) h least = omega arith
 judged-code b low-rank h least = omega arith
-judged-code b (no-room k) h least = absurd h
-judged-code b (written k) h least = absurd h
 
 -- A code from 1 to 8 is that of a refusal by the readers.
 pub code-of-refusal : (s t : List ℕ) → 1 ≤ numbers (verdict s t) .code → numbers (verdict s t) .code ≤ 8 → (r : Refusal) × (read-claim s t ≡ refused r)

@@ -14,7 +14,7 @@ use Rattle.rules.specs.Files.{basis-reader, read-problem, basis-for, read-basis
 use Rattle.laws.specs.BothFiles.{problem-refuses, answer-refuses, both-read}
 use Rattle.laws.specs.Ranges.{problem-valid}
 use Rattle.laws.specs.Valid.{ValidProblem}
-use Rattle.rules.specs.Verdict.{unread, no-room, written}
+use Rattle.rules.specs.Reply.{unread, no-room, written}
 use Rattle.rules.specs.Writer.{write-CE}
 use Rattle.rules.specs.Evidence.{evidence-of, evidence-size, make-evidence}
 use Rattle.laws.specs.EvidenceLaws.{length-evidence, evidence-unread, evidence-no-room, evidence-made}

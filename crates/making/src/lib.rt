@@ -1,28 +1,28 @@
 // The second service of document 01: the evidence of a basis, made into a lent buffer. Any bytes may come in.
 ghost use mathlib.Core.Path.{_≡_};
 ghost use Rattle.rules.specs.Evidence.{make-evidence};
-ghost use Rattle.verdict.specs.Meant.{meant};
+ghost use Rattle.verdict.specs.Replies.{reply-meant};
 use evidence::put_evidence;
 use layout::RECORD;
 use reader::read_answer;
 use reader::read_problem;
-use verdict::Verdict;
+use verdict::Reply;
 use writer::put_text;
 
 // problem, answer: the two files. buffer: where the record goes.
 // Makes the evidence of a basis: what is answered. The record is made whole before a byte of the buffer is touched.
-pub fn evidence_files(problem: &[u8], answer: &[u8], buffer: &mut [u8]) -> Verdict
-    ensures { λ r. ⌜ meant r ≡ make-evidence (now (problem .entry)) (now (answer .entry)) (now (buffer .entry)) .answer ⌝ }
+pub fn evidence_files(problem: &[u8], answer: &[u8], buffer: &mut [u8]) -> Reply
+    ensures { λ r. ⌜ reply-meant r ≡ make-evidence (now (problem .entry)) (now (answer .entry)) (now (buffer .entry)) .answer ⌝ }
     ensures { λ r. ⌜ now (buffer .exit) ≡ make-evidence (now (problem .entry)) (now (answer .entry)) (now (buffer .entry)) .buffer ⌝ }
 {
     let b = read_problem(problem);
     if !b.ok {
-        return Verdict::Unread(b.refusal);
+        return Reply::Unread(b.refusal);
     }
     let head = b.problem.head;
     let a = read_answer(answer, head, false);
     if !a.ok {
-        return Verdict::Unread(a.refusal);
+        return Reply::Unread(a.refusal);
     }
     let mut record = [0u8; RECORD];
     let needed = put_evidence(
@@ -36,7 +36,7 @@ pub fn evidence_files(problem: &[u8], answer: &[u8], buffer: &mut [u8]) -> Verdi
     put_text(buffer, 0, &record[..count]);
     let at = needed as u32;
     if count < needed {
-        return Verdict::NoRoom(at);
+        return Reply::NoRoom(at);
     }
-    Verdict::Written(at)
+    Reply::Written(at)
 }

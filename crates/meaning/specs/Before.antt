@@ -26,7 +26,7 @@ use Rattle.rules.specs.Matrices.{shift, at}
 use Rattle.rules.specs.Conditions.{shifted-degree-of, largest, row-degree-of, row-degree, leading-matrix, degree-sum}
 use Rattle.rules.specs.Reader.{Place, got}
 use Rattle.rules.specs.Files.{read-claim}
-use Rattle.rules.specs.Verdict.{Verdict, passed, unread, not-reduced, not-monomial, below-order, at-order, low-rank, no-room, written, numbers, judge-claim}
+use Rattle.rules.specs.Verdict.{Verdict, passed, unread, not-reduced, not-monomial, below-order, at-order, low-rank, numbers, judge-claim}
 use Rattle.rules.specs.Verdict.{verdict}
 use Rattle.laws.specs.VerdictLaws.{verdict-of-claim}
 use Rattle.laws.specs.Ranges.{claim-valid}
@@ -126,8 +126,6 @@ module _ (c : Claim) where
   still-said low-rank ne (r, d, l, o, k) = (reduced-kept r, d, l, o, k)
   still-said (passed e) ne (r, d, l, o, k, sum) = (reduced-kept r, d, l, o, k, degree-sum-kept r ∙ sum)
   still-said (unread q) ne h = h
-  still-said (no-room k) ne h = h
-  still-said (written k) ne h = h
 
   -- Every verdict but 9 stays.
   pub verdict-kept : 0 < c .problem .p → (v : Verdict) → v ≢ not-reduced → SaidBefore c v → judge-claim c ≡ v

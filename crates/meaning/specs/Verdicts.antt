@@ -22,7 +22,7 @@ use Rattle.rules.specs.Claim.{Claim}
 use Rattle.rules.specs.Matrices.{order, at, product}
 use Rattle.rules.specs.Conditions.{leading-matrix, reduced, determinant, monomial-determinant, degree-sum, low-fault, order-fault, first-place, rank-matrix}
 use Rattle.rules.specs.Conditions.{rank-below}
-use Rattle.rules.specs.Verdict.{Verdict, passed, unread, not-reduced, not-monomial, below-order, at-order, low-rank, no-room, written, pass-with, judge-claim}
+use Rattle.rules.specs.Verdict.{Verdict, passed, unread, not-reduced, not-monomial, below-order, at-order, low-rank, pass-with, judge-claim}
 use Rattle.rules.specs.Verdict.{by-product, by-rank}
 use Rattle.laws.specs.BoolLaws.{false-iff}
 use Rattle.laws.specs.SearchLaws.{first-place-none, first-place-some}
@@ -104,8 +104,6 @@ SaysBy IsReduced sum c (passed d) =
     × FullRank c
     × (sum ≡ some (pos d))
 SaysBy IsReduced sum c (unread r) = ⊥
-SaysBy IsReduced sum c (no-room k) = ⊥
-SaysBy IsReduced sum c (written k) = ⊥
 
 -- What each says by the rules.
 abbrev pub Says : Claim → Verdict → Type 0
@@ -272,8 +270,6 @@ module _ (c : Claim) (positive : 0 < c .problem .p) where
       judge-by-tests (reduced-is .1 r) (monomial-is .1 (e, d .0, d .1)) (no-low-is .1 l) (no-order-is .1 o) (full-rank-iff .1 k)
       ∙ ap pass-with exponent
   given (unread q) h = absurd h
-  given (no-room k) h = absurd h
-  given (written k) h = absurd h
 
   -- A verdict is given exactly if what it says holds.
   pub judge-claim-meaning : (v : Verdict) → (judge-claim c ≡ v) ↔ Says c v

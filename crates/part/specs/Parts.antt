@@ -14,7 +14,7 @@ use Rattle.rules.specs.Claim.{Problem}
 use Rattle.rules.specs.Reader.{Place, got}
 use Rattle.rules.specs.Files.{read-problem}
 use Rattle.rules.specs.Part.{Part, part-bytes, column-start, column-size}
-use Rattle.rules.specs.Verdict.{Verdict, passed, unread, not-reduced, not-monomial, below-order, at-order, low-rank, no-room, written}
+use Rattle.rules.specs.Verdict.{Verdict, passed, unread, not-reduced, not-monomial, below-order, at-order, low-rank}
 use Rattle.part.specs.declared.Piece.{Piece}
 
 -- "come back as part of one of the two files given, and no copy is made": the bytes of the part, at their place in the lent file.
@@ -41,5 +41,3 @@ start-of not-monomial = 0
 start-of (below-order i j) = 0
 start-of (at-order i j) = 0
 start-of low-rank = 0
-start-of (no-room k) = 0
-start-of (written k) = 0

@@ -25,7 +25,7 @@ use Rattle.rules.specs.Reader.{Place, Refusal, Result, refused, got}
 use Rattle.rules.specs.Files.{read-problem, read-claim}
 use Rattle.rules.specs.Matrices.{order}
 use Rattle.rules.specs.Conditions.{sum-below}
-use Rattle.rules.specs.Verdict.{Verdict, passed, unread, not-reduced, not-monomial, below-order, at-order, low-rank, no-room, written, numbers, verdict}
+use Rattle.rules.specs.Verdict.{Verdict, passed, unread, not-reduced, not-monomial, below-order, at-order, low-rank, numbers, verdict}
 use Rattle.rules.specs.Evidence.{evidence-size}
 use Rattle.rules.specs.Part.{Part, column-size, column-start, claim-part, rest-of-file, pointed-at, part-bytes}
 use Rattle.laws.specs.Ranges.{problem-valid, claim-got}
@@ -109,8 +109,6 @@ judged-below b not-monomial h e = absurd (omega (arith, e))
 judged-below b (below-order i j) h e = refl
 judged-below b (at-order i j) h e = absurd (omega (arith, e))
 judged-below b low-rank h e = absurd (omega (arith, e))
-judged-below b (no-room k) h e = absurd h
-judged-below b (written k) h e = absurd h
 
 judged-at : (b : Problem) (v : Verdict) → Judged b v → numbers v .code ≡ 12 → v ≡ at-order (numbers v .number) (numbers v .at)
 unfolding numbers
@@ -121,8 +119,6 @@ judged-at b not-monomial h e = absurd (omega (arith, e))
 judged-at b (below-order i j) h e = absurd (omega (arith, e))
 judged-at b (at-order i j) h e = refl
 judged-at b low-rank h e = absurd (omega (arith, e))
-judged-at b (no-room k) h e = absurd h
-judged-at b (written k) h e = absurd h
 
 module _ (s t : List ℕ) where
   -- With a code past 8 both files are read.

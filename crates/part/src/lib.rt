@@ -44,8 +44,6 @@ fn record_start(v: Verdict) -> u32
         Verdict::BelowOrder(_, _) => 0,
         Verdict::AtOrder(_, _) => 0,
         Verdict::LowRank => 0,
-        Verdict::NoRoom(_) => 0,
-        Verdict::Written(_) => 0,
     }
 }
 

@@ -12,14 +12,9 @@ use Rattle.rules.specs.Claim.{Problem}
 use Rattle.rules.specs.Reader.{refused, got}
 use Rattle.rules.specs.Files.{read-basis}
 use Rattle.rules.specs.Matrices.{order, product}
-use Rattle.rules.specs.Verdict.{Verdict, unread, no-room, written}
+use Rattle.rules.specs.Reply.{unread, no-room, written, Made}
 use Rattle.rules.specs.Writer.{write-CE}
 use Rattle.rules.specs.Table.{table}
-
--- What a service that writes answers, and what the lent buffer holds afterwards.
-pub record Made : Type 0 where
-  pub answer : Verdict
-  pub buffer : List ℕ
 
 -- "the `CE` record, whose number for row i and column j is the coefficient of (PF) there at power d_j, whatever lies below that power"
 unfoldable pub evidence-of : Problem → List (List (List ℕ)) → List (List ℕ)

@@ -7,6 +7,7 @@ pub mod Writer
 pub mod Matrices
 pub mod Conditions
 pub mod Verdict
+pub mod Reply
 pub mod Table
 pub mod Evidence
 pub mod Part

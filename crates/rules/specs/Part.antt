@@ -14,7 +14,7 @@ use Rattle.rules.specs.Reader.{Place, refused, got}
 use Rattle.rules.specs.Files.{read-claim}
 use Rattle.rules.specs.Matrices.{order}
 use Rattle.rules.specs.Conditions.{sum-below}
-use Rattle.rules.specs.Verdict.{Verdict, passed, unread, not-reduced, not-monomial, below-order, at-order, low-rank, no-room, written, judge-claim}
+use Rattle.rules.specs.Verdict.{Verdict, passed, unread, not-reduced, not-monomial, below-order, at-order, low-rank, judge-claim}
 use Rattle.rules.specs.Evidence.{evidence-size}
 
 -- A part of the problem, file 0, or of the answer, file 1.
@@ -46,8 +46,6 @@ claim-part t b (unread r) = record { file = 1; start = 0; size = 0 }
 claim-part t b not-reduced = record { file = 1; start = 0; size = 0 }
 claim-part t b not-monomial = record { file = 1; start = 0; size = 0 }
 claim-part t b low-rank = record { file = 1; start = 0; size = 0 }
-claim-part t b (no-room k) = record { file = 1; start = 0; size = 0 }
-claim-part t b (written k) = record { file = 1; start = 0; size = 0 }
 
 -- "The service works out the verdict from the two files itself."
 unfoldable pub pointed-at : List ℕ → List ℕ → Part

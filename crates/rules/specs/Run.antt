@@ -22,6 +22,7 @@ use Rattle.rules.specs.Conditions.{rank-below}
 use Rattle.rules.specs.Writer.{write-problem, write-answer}
 use Rattle.rules.specs.Verdict.{Numbers, numbers, verdict, judge-claim, by-product, by-rank}
 use Rattle.rules.specs.Table.{table}
+use Rattle.rules.specs.Reply.{reply-numbers}
 use Rattle.rules.specs.Evidence.{evidence-of, make-evidence}
 use Rattle.rules.specs.Part.{Part, rest-of-file, column-size, column-start, claim-part, pointed-at, part-bytes}
 use Rattle.rules.specs.Print.{digits-within, line-of}
@@ -53,5 +54,5 @@ run-part s t = part-bytes s t (run-place s t)
 
 -- The four numbers that evidence-making answers, and the buffer afterwards.
 unfoldable pub run-evidence : List ℕ → List ℕ → List ℕ → Numbers × List ℕ
-unfolding run-verdict table evidence-of make-evidence
-run-evidence s t lent = (numbers (make-evidence s t lent .answer), make-evidence s t lent .buffer)
+unfolding run-verdict table evidence-of make-evidence reply-numbers
+run-evidence s t lent = (reply-numbers (make-evidence s t lent .answer), make-evidence s t lent .buffer)

@@ -1,5 +1,5 @@
--- Document 01, "Verdicts": one case for each kind of answer, the four numbers of each, and which is given.
---   Verdict, numbers         the kinds of answer, and code, file, record and at for each
+-- Document 01, "Verdicts": one case for each kind of verdict, the four numbers of each, and which is given.
+--   Verdict, numbers         the judge's kinds of answer, and code, file, record and at for each
 --   judge-claim, verdict     which one is given
 --   packed                   the one number that the C host gets
 use mathlib.Core.Bool.{true, false, cond}
@@ -12,7 +12,7 @@ use Rattle.rules.specs.Reader.{Refusal, refused, got}
 use Rattle.rules.specs.Files.{read-claim}
 use Rattle.rules.specs.Conditions.{reduced, monomial-determinant, degree-sum, first-place, low-fault, order-fault, rank-below}
 
--- The kinds of answer, of the judge and of the services that write.
+-- The judge's kinds of answer.
 pub data Verdict : Type 0 where
   -- 0, with the degree sum
   passed : ℕ → Verdict
@@ -24,8 +24,6 @@ pub data Verdict : Type 0 where
   below-order at-order : ℕ → ℕ → Verdict
   -- 13
   low-rank : Verdict
-  -- of a service that writes: 14, with the bytes needed, and 0, with the bytes written
-  no-room written : ℕ → Verdict
 
 -- "A verdict is four numbers: code, file, record, at."
 pub record Numbers : Type 0 where
@@ -38,17 +36,19 @@ pub record Numbers : Type 0 where
 abbrev pub four : ℕ → ℕ → ℕ → ℕ → Numbers
 four c f r a = record { code = c; file = f; number = r; at = a }
 
+-- Those of a refusal of reading, codes 1 to 8.
+abbrev pub refusal-numbers : Refusal → Numbers
+refusal-numbers r = four (r .code) (r .place .file) (r .place .number) (r .place .at)
+
 -- The table of codes: "file, record, at" of each.
 unfoldable pub numbers : Verdict → Numbers
 numbers (passed d) = four 0 0 0 d
-numbers (unread r) = four (r .code) (r .place .file) (r .place .number) (r .place .at)
+numbers (unread r) = refusal-numbers r
 numbers not-reduced = four 9 0 0 0
 numbers not-monomial = four 10 0 0 0
 numbers (below-order i j) = four 11 2 i j
 numbers (at-order i j) = four 12 2 i j
 numbers low-rank = four 13 0 0 0
-numbers (no-room needed) = four 14 0 0 needed
-numbers (written bytes) = four 0 0 0 bytes
 
 -- A sum of degrees that is not negative, as a number.
 abbrev pub natural : ℤ → ℕ

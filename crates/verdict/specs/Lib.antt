@@ -1,2 +1,2 @@
 pub mod Meant
-pub mod Unique
+pub mod Replies

@@ -8,7 +8,7 @@ use native.Mathlib.Omega.{arith}
 use denote.Ref.{now}
 use lib.ListN.{length, length-take}
 use Rattle.rules.specs.Sizes.{most-rows}
-use Rattle.rules.specs.Evidence.{Made}
+use Rattle.rules.specs.Reply.{Made}
 use Rattle.laws.specs.WriterLaws.{rectangle-most}
 use Rattle.claim.specs.Sound.{SoundHead}
 use Rattle.reader.specs.Readings.{problem-head, problem-columns}

@@ -47,18 +47,6 @@ enum-told-3 c = search needs
 together-requires-7 : tie.Need-together-requires-7
 together-requires-7 c κs = search needs
 
-enum-known-v-5 : tie.Need-enum-known-v-5
-enum-known-v-5 c = search needs
-
-together-requires-8 : tie.Need-together-requires-8
-together-requires-8 c κs = search needs
-
-enum-known-v-6 : tie.Need-enum-known-v-6
-enum-known-v-6 c = search needs
-
-together-requires-9 : tie.Need-together-requires-9
-together-requires-9 c κs = search needs
-
 returns : tie.Need-returns
 unfolding numbers
 returns c = c .together .ensures ∙ sym (ap (λ v. numbers (meant v)) (c .before .before .v .given .1))
@@ -87,14 +75,6 @@ returns-7 : tie.Need-returns-7
 unfolding numbers
 returns-7 c = c .together7 .ensures ∙ sym (ap (λ v. numbers (meant v)) (c .before .enum-told3 .given .1))
 
-returns-8 : tie.Need-returns-8
-unfolding numbers
-returns-8 c = c .together8 .ensures ∙ sym (ap (λ v. numbers (meant v)) (c .before .before .v5 .given .1))
-
-returns-9 : tie.Need-returns-9
-unfolding numbers
-returns-9 c = c .together9 .ensures ∙ sym (ap (λ v. numbers (meant v)) (c .before .before .v6 .given .1))
-
 pub numbers-spec : {M : Type 1} → statement M
 numbers-spec =
     tie.close
@@ -113,16 +93,10 @@ numbers-spec =
     together-requires-6
     enum-told-3
     together-requires-7
-    enum-known-v-5
-    together-requires-8
-    enum-known-v-6
-    together-requires-9
     returns
     returns-2
     returns-3
     returns-4
     returns-5
     returns-6
-    returns-7
-    returns-8
-    returns-9)
+    returns-7)

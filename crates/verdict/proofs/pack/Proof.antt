@@ -1,12 +1,8 @@
 use borrow.Author.Needs.{needs}
-use mathlib.Core.Path.{ap}
+use mathlib.Core.Path.{refl}
 use Rattle.rules.specs.Verdict.{packed}
 use Rattle.verdict.proofs.pack.Statement.{statement}
 use Rattle.verdict.proofs.pack.Tie as tie
-use Rattle.verdict.proofs.numbers.Reads as numbers-reads
-
-numbers-requires : tie.Need-numbers-requires
-numbers-requires c κs = search needs
 
 cast-result : tie.Need-cast-result
 cast-result c = search needs
@@ -40,13 +36,12 @@ add-result-3 c = search needs
 
 returns : tie.Need-returns
 unfolding packed
-returns c = ap packed (c .before .before .before .before .numbers .ensures)
+returns c = refl
 
 pub pack-spec : {M : Type 1} → statement M
 pack-spec =
     tie.close
     (tie.spec
-    numbers-requires
     cast-result
     cast-result-2
     mul-result
