@@ -20,6 +20,8 @@ use Rattle.rules.specs.Conditions.{degree-sum-of, first-place}
 use Rattle.rules.specs.Verdict.{Verdict, not-reduced, not-monomial, below-order, at-order, low-rank, pass-with, judge-claim}
 use Rattle.laws.specs.SearchLaws.{first-place-some}
 use Rattle.verdict.specs.Meant.{meant}
+use Rattle.field.specs.declared.Modulus.{Modulus}
+use Rattle.field.specs.Modulus.{modulus-of}
 use Rattle.layout.specs.Flat.{length-at, shift-at, cells}
 use Rattle.layout.specs.Settles.{Settles}
 use Rattle.claim.specs.declared.Head.{Head}
@@ -73,10 +75,11 @@ module _ (head : Head) (f lengths entries c : List ℕ) (sound : Sound head f le
   unfolding applies
   found-not-reduced r s = ap (λ b. fault-if b not-reduced) (turned _ r (reduced-of head f lengths entries (sound .sound-head) (sound .sound-basis) r s))
 
-  pub found-not-monomial : (r : Bool) → Settles (Monomial (K (head .p)) (det (Series (K (head .p))) (head .m) (cells (head .p) entries))) r
+  pub found-not-monomial : (r : Bool) {μ : Modulus} → μ ≡ modulus-of (head .p)
+      → Settles (Monomial (K (μ .p)) (det (Series (K (μ .p))) (head .m) (cells (μ .p) entries))) r
       → fault-if (not r) not-monomial ≡ applies 10 (claim-of head f lengths entries c)
   unfolding applies
-  found-not-monomial r s = sym (ap (λ b. fault-if (not b) not-monomial) (monomial-of head f lengths entries (sound .sound-head) (sound .sound-basis) r s))
+  found-not-monomial r e s = sym (ap (λ b. fault-if (not b) not-monomial) (monomial-of head f lengths entries (sound .sound-head) (sound .sound-basis) r e s))
 
   pub found-below : fault-at below-order (first-place (head .m) (head .n) (flat-low-fault head f entries)) ≡ applies 11 (claim-of head f lengths entries c)
   unfolding applies

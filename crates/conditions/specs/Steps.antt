@@ -8,6 +8,7 @@ use mathlib.Core.Bool.{Bool, true, false, not}
 use mathlib.Core.List.{List}
 use Prim.Native.Nat.{ℕ, _+_}
 use native.Mathlib.Nat.{le-of-lt}
+use native.Mathlib.Omega.{arith}
 use Rattle.algebra.specs.Residue.{K, red}
 use Rattle.algebra.specs.Series.{Series, series-ext}
 use Rattle.algebra.specs.Matrix.{Matrix, Same}
@@ -18,10 +19,13 @@ use Rattle.algebra.specs.PolyMatrix.{entries as series-entries}
 use Rattle.rules.specs.Claim.{Problem}
 use Rattle.rules.specs.Matrices.{matrix-P}
 use Rattle.rules.specs.Conditions.{leading-matrix, reduced, monomial-determinant, rank-matrix, rank-below}
+use Rattle.rules.specs.Sizes.{largest-prime}
 use Rattle.laws.specs.BoolLaws.{false-iff}
 use Rattle.laws.specs.ReducedLaws.{reduced-iff}
 use Rattle.laws.specs.DeterminantLaws.{monomial-determinant-iff}
 use Rattle.laws.specs.ProductLaws.{rank-below-iff}
+use Rattle.field.specs.declared.Modulus.{Modulus}
+use Rattle.field.specs.Modulus.{modulus-of, Made, made-of}
 use Rattle.layout.specs.Flat.{cells}
 use Rattle.layout.specs.Holds.{padded-fewer}
 use Rattle.layout.specs.Settles.{Settles}
@@ -50,16 +54,21 @@ module _ {head : Head} {lengths entries : List ℕ} (sound-head : SoundHead head
   pub sized-of : Sized lengths (head .shifts)
   sized-of = record { length-most = sound-basis .P-padded .length-most; shift-most = sound-head .shifts-most }
 
-  pub square-of : Holds (head .p) (head .m) entries lengths
-  square-of =
-      record {
-        two-le = sound-head .prime .two-le;
-        allowed = sound-head .prime-most;
-        some-row = sound-head .rows-least;
-        few-rows = sound-head .rows-most;
-        below = sound-basis .P-below;
-        padded = padded-fewer (sound-head .rows-most) (sound-basis .P-padded);
-      }
+  pub square-of : {μ : Modulus} → μ ≡ modulus-of (head .p) → Made μ × Holds (μ .p) (head .m) entries lengths
+  unfolding largest-prime
+  square-of e =
+      let positive = le-of-lt (sound-head .prime .two-le) in
+      subst (λ μ. Made μ × Holds (μ .p) (head .m) entries lengths) (sym e) (
+        made-of positive (omega (arith, sound-head .prime-most)) refl,
+        record {
+          two-le = sound-head .prime .two-le;
+          allowed = sound-head .prime-most;
+          some-row = sound-head .rows-least;
+          few-rows = sound-head .rows-most;
+          below = sound-basis .P-below;
+          padded = padded-fewer (sound-head .rows-most) (sound-basis .P-padded);
+        },
+      )
 
 -- WHAT THE TESTS SAY
 
@@ -83,12 +92,17 @@ module _ (head : Head) (f lengths entries : List ℕ) (sound-head : SoundHead he
       false-iff (reduced b P) .1 (λ e. reduced-iff b P .0 e (sym (det-local (K (head .p)) (head .m) _ _ same-leading) ∙ s .holds refl))
   reduced-of false s = reduced-iff b P .1 (λ e. s .fails refl (det-local (K (head .p)) (head .m) _ _ same-leading ∙ e))
 
-  pub monomial-of : (r : Bool) → Settles (Monomial (K (head .p)) (det (Series (K (head .p))) (head .m) (cells (head .p) entries))) r → monomial-determinant b P ≡ r
-  monomial-of true s =
+  monomial-settled : (r : Bool) → Settles (Monomial (K (head .p)) (det (Series (K (head .p))) (head .m) (cells (head .p) entries))) r → monomial-determinant b P ≡ r
+  monomial-settled true s =
       monomial-determinant-iff b P .1 (subst (Monomial (K (head .p))) (det-local (Series (K (head .p))) (head .m) _ _ same-P) (s .holds refl))
-  monomial-of false s =
+  monomial-settled false s =
       false-iff (monomial-determinant b P) .1
       (λ e. s .fails refl (subst (Monomial (K (head .p))) (sym (det-local (Series (K (head .p))) (head .m) _ _ same-P)) (monomial-determinant-iff b P .0 e)))
+
+  pub monomial-of : (r : Bool) {μ : Modulus} → μ ≡ modulus-of (head .p)
+      → Settles (Monomial (K (μ .p)) (det (Series (K (μ .p))) (head .m) (cells (μ .p) entries))) r → monomial-determinant b P ≡ r
+  monomial-of r e s =
+      monomial-settled r (subst (λ μ. Settles (Monomial (K (μ .p)) (det (Series (K (μ .p))) (head .m) (cells (μ .p) entries))) r) e s)
 
   -- … and condition 4.
   module _ (c : List ℕ) where

@@ -7,6 +7,7 @@ ghost use Rattle.algebra.specs.Dependence.{Dependent};
 ghost use Rattle.rules.specs.Conditions.{first-place};
 ghost use Rattle.rules.specs.Verdict.{below-order, at-order, judge-claim};
 ghost use Rattle.verdict.specs.Meant.{meant};
+ghost use Rattle.field.specs.Modulus.{modulus-of};
 ghost use Rattle.layout.specs.Holds.{Each};
 ghost use Rattle.layout.specs.Settles.{Settles};
 ghost use Rattle.claim.specs.Claims.{claim-of};
@@ -22,6 +23,8 @@ use degrees::not_negative;
 use determinant::determinant_of;
 use elimination::dependent;
 use elimination::singular;
+use field::Modulus;
+use field::modulus_of;
 use layout::COLUMN_COEFFICIENTS;
 use layout::ENTRY_COEFFICIENTS;
 use layout::SQUARE;
@@ -54,14 +57,16 @@ fn not_reduced<'a>(
 // 11: the first place of a fault below the orders.
 fn below_order<'a>(
     head: Head,
+    modulus: Modulus,
     f: &'a [u32; COLUMN_COEFFICIENTS],
     lengths: &'a [usize; SQUARE],
     entries: &'a [u32; ENTRY_COEFFICIENTS],
 ) -> Finding
     requires { ⌜ SoundHead head × (SoundColumns head (now f) × SoundBasis head (now lengths) (now entries)) ⌝ }
+    requires { ⌜ modulus ≡ modulus-of (head .p) ⌝ }
     ensures { λ r. ⌜ finding r ≡ fault-at below-order (first-place (head .m) (head .n) (flat-low-fault head (now (f .entry)) (now (entries .entry)))) ⌝ }
 {
-    let FirstFault::At(i, j) = first_low_fault(head, f, lengths, entries) else {
+    let FirstFault::At(i, j) = first_low_fault(head, modulus, f, lengths, entries) else {
         return Finding::Nothing;
     };
     let row = i as u16;
@@ -72,15 +77,17 @@ fn below_order<'a>(
 // 12: the first place of a fault at the orders.
 fn at_order<'a>(
     head: Head,
+    modulus: Modulus,
     f: &'a [u32; COLUMN_COEFFICIENTS],
     lengths: &'a [usize; SQUARE],
     entries: &'a [u32; ENTRY_COEFFICIENTS],
     c: &'a [u32; SQUARE],
 ) -> Finding
     requires { ⌜ SoundHead head × (SoundColumns head (now f) × SoundBasis head (now lengths) (now entries)) ⌝ }
+    requires { ⌜ modulus ≡ modulus-of (head .p) ⌝ }
     ensures { λ r. ⌜ finding r ≡ fault-at at-order (first-place (head .m) (head .n) (flat-order-fault head (now (f .entry)) (now (entries .entry)) (now (c .entry)))) ⌝ }
 {
-    let FirstFault::At(i, j) = first_order_fault(head, f, lengths, entries, c) else {
+    let FirstFault::At(i, j) = first_order_fault(head, modulus, f, lengths, entries, c) else {
         return Finding::Nothing;
     };
     let in_row = i as u16;
@@ -116,22 +123,24 @@ fn fault_if(applies: bool, v: Verdict) -> Finding
 fn applying<'a>(
     code: u8,
     head: Head,
+    modulus: Modulus,
     f: &'a [u32; COLUMN_COEFFICIENTS],
     lengths: &'a [usize; SQUARE],
     entries: &'a [u32; ENTRY_COEFFICIENTS],
     c: &'a [u32; SQUARE],
 ) -> Finding
     requires { ⌜ Sound head (now f) (now lengths) (now entries) (now c) ⌝ }
+    requires { ⌜ modulus ≡ modulus-of (head .p) ⌝ }
     ensures { λ r. ⌜ finding r ≡ applies code (claim-of head (now (f .entry)) (now (lengths .entry)) (now (entries .entry)) (now (c .entry))) ⌝ }
 {
     match code {
         9 => fault_if(not_reduced(head, lengths, entries), Verdict::NotReduced),
         10 => fault_if(
-            !is_monomial(determinant_of(entries, lengths, head.p, head.m)),
+            !is_monomial(determinant_of(entries, lengths, modulus, head.m)),
             Verdict::NotMonomial,
         ),
-        11 => below_order(head, f, lengths, entries),
-        12 => at_order(head, f, lengths, entries, c),
+        11 => below_order(head, modulus, f, lengths, entries),
+        12 => at_order(head, modulus, f, lengths, entries, c),
         13 => fault_if(low_rank(head, entries, c), Verdict::LowRank),
         _ => Finding::Nothing,
     }
@@ -148,9 +157,10 @@ pub fn conditions<'a>(
     requires { ⌜ Sound head (now f) (now lengths) (now entries) (now c) ⌝ }
     ensures { λ r. ⌜ meant r ≡ judge-claim (claim-of head (now (f .entry)) (now (lengths .entry)) (now (entries .entry)) (now (c .entry))) ⌝ }
 {
+    let modulus = modulus_of(head.p);
     let mut code = 9;
     while code <= 13 {
-        if let Finding::Fault(v) = applying(code, head, f, lengths, entries, c) {
+        if let Finding::Fault(v) = applying(code, head, modulus, f, lengths, entries, c) {
             return v;
         }
         code += 1;

@@ -18,7 +18,8 @@ use Rattle.algebra.specs.Polynomial.{Below, below-mono, below-zero, below-add, 
 use Rattle.algebra.specs.Matrix.{Matrix}
 use Rattle.algebra.specs.Det.{det, minor, det-local}
 use Rattle.rules.specs.Sizes.{most-rows}
-use Rattle.field.specs.Cut.{cut}
+use Rattle.field.specs.declared.Modulus.{Modulus}
+use Rattle.field.specs.Modulus.{Made}
 use Rattle.layout.specs.Flat.{length-at, cell, cells}
 use Rattle.polynomial.specs.Coefficients.{most-power}
 use Rattle.determinant.specs.Padded.{Stands, Filled, Remainder, filled-small, filled-stands, getD-zeros, capacity}
@@ -61,7 +62,10 @@ pub expanded-none : (p row n : ℕ) (entries tops columns : List ℕ) → Expand
 unfolding sum
 expanded-none p row n entries tops columns = record { value = λ i. ap (red p) (getD-zeros capacity i); below = below-zero (K p) (suc (getD tops row 0)) }
 
-module _ {p c n row : ℕ} {entries lengths tops columns : List ℕ} (asked : Asked p c (suc n) row entries lengths tops columns) where
+module _ {μ : Modulus} {n row : ℕ} {entries lengths tops columns : List ℕ} (asked : Asked μ (suc n) row entries lengths tops columns) where
+  abbrev p : ℕ
+  p = μ .p
+
   few : row + suc n ≤ most-rows
   few = asked .holds .few-rows
 
@@ -76,13 +80,12 @@ module _ {p c n row : ℕ} {entries lengths tops columns : List ℕ} (asked : As
   signed-term j = series-ext (K p) (λ k. sym (sign-series (K p) j (square p entries row columns zero j) k ∙ ap (λ x. K p ._⊗_ (sign (K p) j) x) (first-row j k)))
 
   -- What is asked for the square that is left.
-  pub asked-left : {j : ℕ} (left : List ℕ) → j < suc n → 1 ≤ n → Without j columns left → Asked p c n (row + 1) entries lengths tops left
+  pub asked-left : {j : ℕ} (left : List ℕ) → j < suc n → 1 ≤ n → Without j columns left → Asked μ n (row + 1) entries lengths tops left
   asked-left {j} left h some without =
       let rows : row + suc n ≡ row + 1 + n = omega arith in record {
         holds = subst (λ m. Holds p m entries lengths) rows (asked .holds);
         bounded = subst (λ m. Tops m lengths tops) rows (asked .bounded);
-        carries = asked .carries;
-        small = asked .small;
+        made = asked .made;
         some = some;
         within = λ k b. omega (arith, without k (omega arith), asked .within (skip j k) (skip-below n j k b));
       }
@@ -136,10 +139,10 @@ module _ {p c n row : ℕ} {entries lengths tops columns : List ℕ} (asked : As
   -- Where the product of the entry with its sign and the determinant of the square that is left is added, the sums have one term more.
   pub expanded-more : {j n′ : ℕ} {e l s s′ : List ℕ} (left : List ℕ) → j < suc n → length-at lengths row (getD columns j 0) ≡ n′ → 0 < n′
       → Without j columns left → Determinant p n (row + 1) entries tops left l → SignedEntry p row (getD columns j 0) n′ j entries e
-      → AddedProduct c n′ (getD tops (row + 1) 0) e l s s′ → Expanded p row n j entries tops columns s → Expanded p row n (j + 1) entries tops columns s′
+      → AddedProduct p n′ (getD tops (row + 1) 0) e l s s′ → Expanded p row n j entries tops columns s → Expanded p row n (j + 1) entries tops columns s′
   expanded-more {j} {n′} left h has pos without minor-is entry added done = record {
     value = λ i.
-        added .same p f g (asked .carries) (entry .stands zeros) below-f (minor-is .stands) (minor-is .below) i
+        added .same f g (entry .stands zeros) below-f (minor-is .stands) (minor-is .below) i
         ∙ ap₂ (λ x t. K p ._⊕_ x (t i)) (done .value i) same
         ∙ ap (λ t. t i) (sym (more-terms j));
     below =
@@ -186,18 +189,21 @@ module _ {p c n row : ℕ} {entries lengths tops columns : List ℕ} (asked : As
       positive = omega (arith, asked .holds .two-le)
 
 -- The determinant of a square of size 1 is its entry.
-pub determinant-one : {p c row : ℕ} {entries lengths tops columns l : List ℕ} → Asked p c 1 row entries lengths tops columns
-    → SignedEntry p row (getD columns 0 0) (length-at lengths row (getD columns 0 0)) 0 entries l → Determinant p 1 row entries tops columns l
+pub determinant-one : {μ : Modulus} {row : ℕ} {entries lengths tops columns l : List ℕ} → Asked μ 1 row entries lengths tops columns
+    → SignedEntry (μ .p) row (getD columns 0 0) (length-at lengths row (getD columns 0 0)) 0 entries l → Determinant (μ .p) 1 row entries tops columns l
 unfolding sign
-determinant-one {p} {c} {row} {entries} {lengths} {tops} {columns} {l} asked entry = record {
-  stands = subst (Stands p l) is-entry (entry .stands zeros);
-  below = subst (Below (K p) (suc (getD tops row 0))) is-entry
+determinant-one {μ} {row} {entries} {lengths} {tops} {columns} {l} asked entry = record {
+  stands = subst (Stands (μ .p) l) is-entry (entry .stands zeros);
+  below = subst (Below (K (μ .p)) (suc (getD tops row 0))) is-entry
       (λ k le. signed-below asked 0 k (omega arith) (omega (arith, asked .bounded .step row (getD columns 0 0) (omega arith) (asked .within 0 (omega arith)))));
   small = entry .small;
 }
   where
     zeros : (k : ℕ) → length-at lengths row (getD columns 0 0) ≤ k → cell entries row (getD columns 0 0) k ≡ 0
     zeros = entry-zeros asked 0 (omega arith)
+
+    p : ℕ
+    p = μ .p
 
     is-entry : signed p entries row (getD columns 0 0) 0 ≡ det (Polynomials p) 1 (square p entries row columns)
     is-entry = signed-term asked 0 ∙ Ring.one-mul (Polynomials p) (square p entries row columns zero zero) ∙ sym (det-one (Polynomials p) (square p entries row columns))
@@ -207,14 +213,13 @@ abbrev pub InOrder : List ℕ → Type 0
 InOrder columns = (j : ℕ) → j < most-rows → getD columns j 0 ≡ j
 
 -- What is asked of the whole matrix.
-pub asked-whole : {p m c : ℕ} {entries lengths tops : List ℕ} (columns : List ℕ) → Holds p m entries lengths → Tops m lengths tops → InOrder columns
-    → c ≡ cut % p → Asked p c m 0 entries lengths tops columns
-asked-whole {p} {m} {c} {entries} {lengths} {tops} columns holds bounded ordered e =
+pub asked-whole : {μ : Modulus} {m : ℕ} {entries lengths tops : List ℕ} (columns : List ℕ) → Made μ → Holds (μ .p) m entries lengths → Tops m lengths tops
+    → InOrder columns → Asked μ m 0 entries lengths tops columns
+asked-whole {μ} {m} {entries} {lengths} {tops} columns made holds bounded ordered =
     let whole : m ≡ 0 + m = omega arith in record {
-      holds = subst (λ n. Holds p n entries lengths) whole holds;
+      holds = subst (λ n. Holds (μ .p) n entries lengths) whole holds;
       bounded = subst (λ n. Tops n lengths tops) whole bounded;
-      carries = ap (red p) e ∙ red-mod p cut;
-      small = subst (λ x. x < p) (sym e) (mod-lt cut (omega (arith, holds .two-le)));
+      made = made;
       some = holds .some-row;
       within = λ j h. omega (arith, ordered j (omega (arith, holds .few-rows)));
     }

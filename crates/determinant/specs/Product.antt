@@ -20,27 +20,27 @@ use Rattle.algebra.specs.Residue.{K, Residue, red, red-add, red-mul}
 use Rattle.algebra.specs.Series.{tail, shift, shift-below, shift-above, convolve, convolve-vanishes}
 use Rattle.algebra.specs.Polynomial.{Below}
 use Rattle.determinant.specs.Padded.{Stands, capacity}
-use Rattle.determinant.specs.Fold.{Carries, Folded}
+use Rattle.determinant.specs.Fold.{Folded}
 
 -- x + y·X + z·X² times the polynomial of l, at power k.
 unfoldable pub triple : (p x y z : ℕ) → List ℕ → ℕ → Residue p
 triple p x y z l k = red p (x * getD l (k + 2) 0 + y * getD l (k + 1) 0 + z * getD l k 0)
 
 -- r is v with the coefficient at power k of that product added.
-pub record Added (c v x y z k : ℕ) (l : List ℕ) (r : ℕ) : Type 0 where
-  pub same : (p : ℕ) → Carries p c → red p r ≡ K p ._⊕_ (red p v) (triple p x y z l k)
+pub record Added (p v x y z k : ℕ) (l : List ℕ) (r : ℕ) : Type 0 where
+  pub same : red p r ≡ K p ._⊕_ (red p v) (triple p x y z l k)
 
 -- s′ is s with three terms of the polynomial of e, those at the powers at, at + 1 and at + 2, times the polynomial of l added, if that
 -- has no power above top.
-pub record AddedTriple (c at top : ℕ) (e l s s′ : List ℕ) : Type 0 where
+pub record AddedTriple (p at top : ℕ) (e l s s′ : List ℕ) : Type 0 where
   pub long : length s′ ≡ capacity
-  pub same : (p : ℕ) → Carries p c → ((i : ℕ) → top + 3 ≤ i → red p (getD l i 0) ≡ K p .𝟘)
+  pub same : ((i : ℕ) → top + 3 ≤ i → red p (getD l i 0) ≡ K p .𝟘)
       → (i : ℕ) → red p (getD s′ i 0) ≡ K p ._⊕_ (red p (getD s i 0)) (shift (K p) at (triple p (getD e (at + 2) 0) (getD e (at + 3) 0) (getD e (at + 4) 0) l) i)
 
 -- s′ is s with the product of the polynomials of e and l added.
-pub record AddedProduct (c n top : ℕ) (e l s s′ : List ℕ) : Type 0 where
+pub record AddedProduct (p n top : ℕ) (e l s s′ : List ℕ) : Type 0 where
   pub long : length s′ ≡ capacity
-  pub same : (p : ℕ) (f g : ℕ → Residue p) → Carries p c → Stands p e f → Below (K p) n f → Stands p l g → Below (K p) (suc top) g
+  pub same : (f g : ℕ → Residue p) → Stands p e f → Below (K p) n f → Stands p l g → Below (K p) (suc top) g
       → (i : ℕ) → red p (getD s′ i 0) ≡ K p ._⊕_ (red p (getD s i 0)) (convolve (K p) f g i)
 
 -- The coefficients from k on.
@@ -123,13 +123,13 @@ module _ (R : CommRing) where
       rest = convolve R (λ i. h (suc (suc (suc i)))) f
 
 -- A folded number and three products give the number with the products added.
-pub added : {c v f x y z k a b d : ℕ} {l : List ℕ} → Folded c v f → a ≡ x * getD l (k + 2) 0 → b ≡ y * getD l (k + 1) 0 → d ≡ z * getD l k 0
-    → Added c v x y z k l (f + a + b + d)
+pub added : {p v f x y z k a b d : ℕ} {l : List ℕ} → Folded p v f → a ≡ x * getD l (k + 2) 0 → b ≡ y * getD l (k + 1) 0 → d ≡ z * getD l k 0
+    → Added p v x y z k l (f + a + b + d)
 unfolding triple
-added {f = f} {x = x} {y = y} {z = z} {k = k} {l = l} folded ea eb ed = record {
-  same = λ p h.
+added {p = p} {f = f} {x = x} {y = y} {z = z} {k = k} {l = l} folded ea eb ed = record {
+  same =
       let t : ℕ = x * getD l (k + 2) 0 + y * getD l (k + 1) 0 + z * getD l k 0 in
-      ap (red p) (omega arith) ∙ red-add p f t ∙ ap (λ u. K p ._⊕_ u (red p t)) (folded .same p h);
+      ap (red p) (omega arith) ∙ red-add p f t ∙ ap (λ u. K p ._⊕_ u (red p t)) (folded .same);
 }
 
 module _ (p : ℕ) where
@@ -193,53 +193,52 @@ module _ (p : ℕ) where
 
 -- What is still to be added to s, of the three terms at the powers from `at` on times the polynomial of l, when the first k coefficients
 -- have been added to s₀.
-pub record TripleLeft (c at k x y z : ℕ) (l s₀ s : List ℕ) : Type 0 where
-  pub left : (p : ℕ) → Carries p c → (i : ℕ)
+pub record TripleLeft (p at k x y z : ℕ) (l s₀ s : List ℕ) : Type 0 where
+  pub left : (i : ℕ)
       → K p ._⊕_ (red p (getD s i 0)) (shift (K p) (at + k) (from k (triple p x y z l)) i) ≡ K p ._⊕_ (red p (getD s₀ i 0)) (shift (K p) at (triple p x y z l) i)
 
 -- Everything is left …
-pub triple-start : {c at x y z : ℕ} {l s : List ℕ} → TripleLeft c at 0 x y z l s s
-triple-start {c} {at} {x} {y} {z} {l} {s} = record {
-  left = λ p h i.
+pub triple-start : {p at x y z : ℕ} {l s : List ℕ} → TripleLeft p at 0 x y z l s s
+triple-start {p} {at} {x} {y} {z} {l} {s} = record {
+  left = λ i.
       ap₂ (λ d g. K p ._⊕_ (red p (getD s i 0)) (shift (K p) d g i)) (Nat.add-zero at) (fun-ext (λ k. ap (triple p x y z l) (Nat.zero-add k)));
 }
 
 -- … then one coefficient less …
-pub triple-again : {c at k x y z r : ℕ} {l s₀ s : List ℕ} → at + k < length s → Added c (getD s (at + k) 0) x y z k l r
-    → TripleLeft c at k x y z l s₀ s → TripleLeft c at (k + 1) x y z l s₀ (set s (at + k) r)
-triple-again {c} {at} {k} {x} {y} {z} {r} {l} {s₀} {s} fits added rest = record {
-  left = λ p h i.
+pub triple-again : {p at k x y z r : ℕ} {l s₀ s : List ℕ} → at + k < length s → Added p (getD s (at + k) 0) x y z k l r
+    → TripleLeft p at k x y z l s₀ s → TripleLeft p at (k + 1) x y z l s₀ (set s (at + k) r)
+triple-again {p} {at} {k} {x} {y} {z} {r} {l} {s₀} {s} fits added rest = record {
+  left = λ i.
       let s′ : List ℕ = set s (at + k) r in
       let t : ℕ → Residue p = triple p x y z l in
       ap₂ (λ d g. K p ._⊕_ (red p (getD s′ i 0)) (shift (K p) d g i)) (omega arith) (sym (from-suc k t))
       ∙ one-added (K p) (λ i. red p (getD s i 0)) (λ i. red p (getD s′ i 0)) (from k t) (at + k)
-      (ap (red p) (getD-set-same s (at + k) r 0 fits) ∙ added .same p h ∙ ap (λ j. K p ._⊕_ (red p (getD s (at + k) 0)) (t j)) (sym (Nat.add-zero k)))
+      (ap (red p) (getD-set-same s (at + k) r 0 fits) ∙ added .same ∙ ap (λ j. K p ._⊕_ (red p (getD s (at + k) 0)) (t j)) (sym (Nat.add-zero k)))
       (λ j ne. ap (red p) (getD-set-other s (at + k) j r 0 ne))
       i
-      ∙ rest .left p h i;
+      ∙ rest .left i;
 }
 
 -- … and nothing where the rest of l is 0.
-pub triple-done : {c at k x y z : ℕ} {l s₀ s : List ℕ} → TripleLeft c at k x y z l s₀ s
-    → (p : ℕ) → Carries p c → ((i : ℕ) → k ≤ i → red p (getD l i 0) ≡ K p .𝟘)
+pub triple-done : {p at k x y z : ℕ} {l s₀ s : List ℕ} → TripleLeft p at k x y z l s₀ s → ((i : ℕ) → k ≤ i → red p (getD l i 0) ≡ K p .𝟘)
     → (i : ℕ) → red p (getD s i 0) ≡ K p ._⊕_ (red p (getD s₀ i 0)) (shift (K p) at (triple p x y z l) i)
-triple-done {at = at} {k = k} {x = x} {y = y} {z = z} {l = l} {s = s} rest p h zeros i =
+triple-done {p} {at = at} {k = k} {x = x} {y = y} {z = z} {l = l} {s = s} rest zeros i =
     sym (K p .add-zero (red p (getD s i 0)))
     ∙ ap (λ u. K p ._⊕_ (red p (getD s i 0)) u)
     (sym (shift-zeros (K p) (at + k) (from k (triple p x y z l)) (λ j. triple-zero p x y z l k zeros (k + j) (omega arith)) i))
-    ∙ rest .left p h i
+    ∙ rest .left i
 
 -- What is still to be added to s, of the product of the polynomials of e and l, when the terms of e below the power d have been
 -- multiplied and added to s₀.
-pub record ProductLeft (c top d : ℕ) (e l s₀ s : List ℕ) : Type 0 where
-  pub left : (p : ℕ) (f g : ℕ → Residue p) → Carries p c → Stands p e f → Stands p l g → Below (K p) (suc top) g → (i : ℕ)
+pub record ProductLeft (p top d : ℕ) (e l s₀ s : List ℕ) : Type 0 where
+  pub left : (f g : ℕ → Residue p) → Stands p e f → Stands p l g → Below (K p) (suc top) g → (i : ℕ)
       → K p ._⊕_ (red p (getD s i 0)) (shift (K p) d (convolve (K p) (from d f) g) i) ≡ K p ._⊕_ (red p (getD s₀ i 0)) (convolve (K p) f g i)
 
 -- Everything is left …
-pub product-start : {c top : ℕ} {e l s : List ℕ} → ProductLeft c top 0 e l s s
+pub product-start : {p top : ℕ} {e l s : List ℕ} → ProductLeft p top 0 e l s s
 unfolding shift
-product-start {s = s} = record {
-  left = λ p f g h he hl below i.
+product-start {p} {s = s} = record {
+  left = λ f g he hl below i.
       ap (λ f′. K p ._⊕_ (red p (getD s i 0)) (convolve (K p) f′ g i)) (fun-ext (λ k. ap f (Nat.zero-add k)));
 }
 
@@ -251,19 +250,19 @@ stands-zeros p l g top stands below (suc zero) h = absurd (omega arith)
 stands-zeros p l g top stands below (suc (suc i)) h = stands (suc (suc i)) ∙ below i (omega arith)
 
 -- … then three terms less …
-pub product-again : {c top d : ℕ} {e l s₀ s s′ : List ℕ} → AddedTriple c d top e l s s′ → ProductLeft c top d e l s₀ s → ProductLeft c top (d + 3) e l s₀ s′
-product-again {top = top} {d = d} {e = e} {l = l} {s = s} {s′ = s′} added rest = record {
-  left = λ p f g h he hl below i.
-      product-step p e l f g he hl (λ i. red p (getD s i 0)) (λ i. red p (getD s′ i 0)) d (added .same p h (stands-zeros p l g top hl below)) i
-      ∙ rest .left p f g h he hl below i;
+pub product-again : {p top d : ℕ} {e l s₀ s s′ : List ℕ} → AddedTriple p d top e l s s′ → ProductLeft p top d e l s₀ s → ProductLeft p top (d + 3) e l s₀ s′
+product-again {p} {top = top} {d = d} {e = e} {l = l} {s = s} {s′ = s′} added rest = record {
+  left = λ f g he hl below i.
+      product-step p e l f g he hl (λ i. red p (getD s i 0)) (λ i. red p (getD s′ i 0)) d (added .same (stands-zeros p l g top hl below)) i
+      ∙ rest .left f g he hl below i;
 }
 
 -- … and nothing from the length of e on.
-pub product-done : {c n top d : ℕ} {e l s₀ s : List ℕ} → length s ≡ capacity → n ≤ d → ProductLeft c top d e l s₀ s → AddedProduct c n top e l s₀ s
-product-done {n = n} {d = d} {s = s} long b rest = record {
+pub product-done : {p n top d : ℕ} {e l s₀ s : List ℕ} → length s ≡ capacity → n ≤ d → ProductLeft p top d e l s₀ s → AddedProduct p n top e l s₀ s
+product-done {p} {n = n} {d = d} {s = s} long b rest = record {
   long = long;
-  same = λ p f g h he bf hl bg i.
+  same = λ f g he bf hl bg i.
       sym (K p .add-zero (red p (getD s i 0)))
       ∙ ap (λ u. K p ._⊕_ (red p (getD s i 0)) u) (sym (product-end p f g n d bf b i))
-      ∙ rest .left p f g h he hl bg i;
+      ∙ rest .left f g he hl bg i;
 }

@@ -19,10 +19,11 @@ use Rattle.algebra.specs.Polynomial.{Below}
 use Rattle.algebra.specs.Matrix.{Matrix}
 use Rattle.algebra.specs.Det.{det}
 use Rattle.rules.specs.Sizes.{largest-prime, most-rows}
+use Rattle.field.specs.declared.Modulus.{Modulus}
+use Rattle.field.specs.Modulus.{Made}
 use Rattle.layout.specs.Flat.{cells}
 use Rattle.layout.specs.Holds.{Each, Padded}
 use Rattle.determinant.specs.Padded.{Stands}
-use Rattle.determinant.specs.Fold.{Carries}
 use Rattle.determinant.specs.Tops.{Tops}
 
 -- The flat array holds an m × m matrix of polynomials modulo p, and lengths says how many coefficients each entry has.
@@ -39,11 +40,10 @@ abbrev pub square : (p : ℕ) → List ℕ → ℕ → List ℕ → Matrix (Seri
 square p entries row columns i j = cells p entries (row + i) (getD columns j 0)
 
 -- What is asked for the determinant of the square with `size` rows from `row` on, the last rows of the matrix, and as many columns.
-pub record Asked (p c size row : ℕ) (entries lengths tops columns : List ℕ) : Type 0 where
-  pub holds : Holds p (row + size) entries lengths
+pub record Asked (μ : Modulus) (size row : ℕ) (entries lengths tops columns : List ℕ) : Type 0 where
+  pub holds : Holds (μ .p) (row + size) entries lengths
   pub bounded : Tops (row + size) lengths tops
-  pub carries : Carries p c
-  pub small : c < p
+  pub made : Made μ
   pub some : 1 ≤ size
   pub within : (j : ℕ) → j < size → getD columns j 0 < row + size
 
@@ -73,7 +73,7 @@ skip-high zero k h = sym (add-one k)
 skip-high (suc j) zero h = absurd (omega arith)
 skip-high (suc j) (suc k) h = ap suc (skip-high j k (le-of-suc-le-suc h)) ∙ omega arith
 
-module _ {p c size row : ℕ} {entries lengths tops columns : List ℕ} (asked : Asked p c size row entries lengths tops columns) where
+module _ {μ : Modulus} {size row : ℕ} {entries lengths tops columns : List ℕ} (asked : Asked μ size row entries lengths tops columns) where
   -- The first row and the columns of a square are within the matrix.
   pub asked-row : row < most-rows
   asked-row = omega (arith, asked .holds .few-rows, asked .some)
@@ -81,13 +81,12 @@ module _ {p c size row : ℕ} {entries lengths tops columns : List ℕ} (asked :
   pub asked-column : {j : ℕ} → j < size → getD columns j 0 < most-rows
   asked-column {j} h = omega (arith, asked .holds .few-rows, asked .within j h)
 
-  -- Numbers below p, and the number that carries, are below 2^31.
-  pub asked-below : {x : ℕ} → x < p → x < 2 ^ 31
-  unfolding largest-prime
-  asked-below h = omega (arith, asked .holds .allowed)
+  -- Numbers below p are below 2^31.
+  pub asked-below : {x : ℕ} → x < μ .p → x < 2 ^ 31
+  asked-below h = omega (arith, asked .made .small)
 
   -- A size that is not 0 is a successor.
-  pub asked-suc : Asked p c (suc (size - 1)) row entries lengths tops columns
+  pub asked-suc : Asked μ (suc (size - 1)) row entries lengths tops columns
   asked-suc =
       let e : size ≡ suc (size - 1) = omega (arith, asked .some) in
-      subst (λ n. Asked p c n row entries lengths tops columns) e asked
+      subst (λ n. Asked μ n row entries lengths tops columns) e asked

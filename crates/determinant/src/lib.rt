@@ -5,7 +5,7 @@
 // A polynomial of the work stands in an array of CAPACITY numbers: two zeros, its coefficients from power 0 on, then zeros, at least
 // two of them. With these zeros the product of two polynomials needs no case for its ends.
 use field::CUT;
-use field::cut_mod;
+use field::Modulus;
 use field::neg_mod;
 use layout::ENTRY_COEFFICIENTS;
 use layout::ROWS;
@@ -22,6 +22,7 @@ ghost use Rattle.algebra.specs.Series.{Series};
 ghost use Rattle.algebra.specs.Sum.{skip};
 ghost use Rattle.algebra.specs.Det.{det};
 ghost use Rattle.rules.specs.Sizes.{most-rows, most-length};
+ghost use Rattle.field.specs.Modulus.{Made};
 ghost use Rattle.layout.specs.Flat.{length-at, cells};
 ghost use Rattle.layout.specs.Holds.{Each};
 ghost use Rattle.polynomial.specs.Coefficients.{most-power, ZerosFrom, Ends, Coefficients};
@@ -51,14 +52,14 @@ fn no_sums() -> [u64; CAPACITY]
     [0; CAPACITY]
 }
 
-// v: any sum. c: 2^40 modulo p.
+// v: any sum.
 // A number below 2^56 that is v modulo p. It takes one product of 32-bit numbers and no division, so that a sum need not be divided
 // by p each time that something is added to it.
-fn fold(v: u64, c: u32) -> u64
-    requires { ⌜ c < 2 ^ 31 ⌝ }
-    ensures { λ r. ⌜ Folded c v r ⌝ }
+fn fold(v: u64, modulus: Modulus) -> u64
+    requires { ⌜ Made modulus ⌝ }
+    ensures { λ r. ⌜ Folded (modulus .p) v r ⌝ }
 {
-    v / CUT * c as u64 + v % CUT
+    v / CUT * modulus.fold as u64 + v % CUT
 }
 
 // x and y: numbers below 2^31, as every number modulo an allowed prime is.
@@ -70,18 +71,26 @@ fn product(x: u32, y: u32) -> u64
     x as u64 * y as u64
 }
 
-// v: a sum. x, y and z: three coefficients in a row of one polynomial. minor: another polynomial. k: a power. c: 2^40 modulo p.
+// v: a sum. x, y and z: three coefficients in a row of one polynomial. minor: another polynomial. k: a power.
 // The sum with the coefficient at k of (x + y·X + z·X²) · minor added. A folded sum and three products always fit 64 bits.
-fn add_three(v: u64, x: u32, y: u32, z: u32, minor: &[u32; CAPACITY], k: usize, c: u32) -> u64
+fn add_three(
+    v: u64,
+    x: u32,
+    y: u32,
+    z: u32,
+    minor: &[u32; CAPACITY],
+    k: usize,
+    modulus: Modulus,
+) -> u64
     requires { ⌜ (x < 2 ^ 31) × ((y < 2 ^ 31) × (z < 2 ^ 31)) ⌝ }
-    requires { ⌜ (k + 2 < capacity) × (c < 2 ^ 31) ⌝ }
+    requires { ⌜ (k + 2 < capacity) × Made modulus ⌝ }
     requires { ⌜ Each (2 ^ 31) (now minor) ⌝ }
-    ensures { λ r. ⌜ Added c v x y z k (now (minor .entry)) r ⌝ }
+    ensures { λ r. ⌜ Added (modulus .p) v x y z k (now (minor .entry)) r ⌝ }
 {
-    fold(v, c) + product(x, minor[k + 2]) + product(y, minor[k + 1]) + product(z, minor[k])
+    fold(v, modulus) + product(x, minor[k + 2]) + product(y, minor[k + 1]) + product(z, minor[k])
 }
 
-// sums: the sums, one for each power. entry and minor: two polynomials. at: a power. top: the highest power of minor. c: 2^40 modulo p.
+// sums: the sums, one for each power. entry and minor: two polynomials. at: a power. top: the highest power of minor.
 // Adds to the sums the terms of entry at the powers at, at + 1 and at + 2, times minor. Each turn does the same to its own sum, so
 // that turns are made side by side.
 fn add_triple(
@@ -90,23 +99,22 @@ fn add_triple(
     at: usize,
     minor: &[u32; CAPACITY],
     top: usize,
-    c: u32,
+    modulus: Modulus,
 )
-    requires { ⌜ (at + top ≤ most-power) × ((c < 2 ^ 31) × (length (now sums) ≡ capacity)) ⌝ }
+    requires { ⌜ (at + top ≤ most-power) × (Made modulus × (length (now sums) ≡ capacity)) ⌝ }
     requires { ⌜ Each (2 ^ 31) (now entry) × Each (2 ^ 31) (now minor) ⌝ }
-    ensures { λ _. ⌜ AddedTriple c at top (now (entry .entry)) (now (minor .entry)) (now (sums .entry)) (now (sums .exit)) ⌝ }
+    ensures { λ _. ⌜ AddedTriple (modulus .p) at top (now (entry .entry)) (now (minor .entry)) (now (sums .entry)) (now (sums .exit)) ⌝ }
 {
     let x = entry[at + 2];
     let y = entry[at + 3];
     let z = entry[at + 4];
     for k in 0..top + 3 {
         let s = at + k;
-        sums[s] = add_three(sums[s], x, y, z, minor, k, c);
+        sums[s] = add_three(sums[s], x, y, z, minor, k, modulus);
     }
 }
 
-// sums: the sums, one for each power. entry: a polynomial of count coefficients. minor: a polynomial with no power above top. c: 2^40
-// modulo p.
+// sums: the sums, one for each power. entry: a polynomial of count coefficients. minor: a polynomial with no power above top.
 // Adds to the sums the product of the two polynomials, three coefficients of entry at a time.
 fn add_product(
     sums: &mut [u64; CAPACITY],
@@ -114,15 +122,15 @@ fn add_product(
     count: usize,
     minor: &[u32; CAPACITY],
     top: usize,
-    c: u32,
+    modulus: Modulus,
 )
-    requires { ⌜ (count + top ≤ most-power + 1) × ((c < 2 ^ 31) × (length (now sums) ≡ capacity)) ⌝ }
+    requires { ⌜ (count + top ≤ most-power + 1) × (Made modulus × (length (now sums) ≡ capacity)) ⌝ }
     requires { ⌜ Each (2 ^ 31) (now entry) × Each (2 ^ 31) (now minor) ⌝ }
-    ensures { λ _. ⌜ AddedProduct c count top (now (entry .entry)) (now (minor .entry)) (now (sums .entry)) (now (sums .exit)) ⌝ }
+    ensures { λ _. ⌜ AddedProduct (modulus .p) count top (now (entry .entry)) (now (minor .entry)) (now (sums .entry)) (now (sums .exit)) ⌝ }
 {
     let mut at = 0;
     while at < count {
-        add_triple(sums, entry, at, minor, top, c);
+        add_triple(sums, entry, at, minor, top, modulus);
         at += 3;
     }
 }
@@ -204,21 +212,20 @@ fn without(columns: &[usize; ROWS], j: usize) -> [usize; ROWS]
 }
 
 // entries: the coefficients of a matrix, below p. lengths: how many each entry has. tops: for each row, a bound on the powers in a
-// determinant of the rows from there on. c: 2^40 modulo p. size and row: the square's last `size` rows of the matrix start at `row`.
+// determinant of the rows from there on. size and row: the square's last `size` rows of the matrix start at `row`.
 // columns: the first `size` of these are its columns.
 // The determinant of the square, each coefficient below p: of one entry, that entry; of a larger square, by its first row.
 fn determinant(
     entries: &[u32; ENTRY_COEFFICIENTS],
     lengths: &[usize; SQUARE],
     tops: &[usize; ROWS],
-    p: u32,
-    c: u32,
+    modulus: Modulus,
     size: usize,
     row: usize,
     columns: &[usize; ROWS],
 ) -> [u32; CAPACITY]
-    requires { ⌜ Asked p c size row (now entries) (now lengths) (now tops) (now columns) ⌝ }
-    ensures { λ r. ⌜ Determinant p size row (now (entries .entry)) (now (tops .entry)) (now (columns .entry)) r ⌝ }
+    requires { ⌜ Asked modulus size row (now entries) (now lengths) (now tops) (now columns) ⌝ }
+    ensures { λ r. ⌜ Determinant (modulus .p) size row (now (entries .entry)) (now (tops .entry)) (now (columns .entry)) r ⌝ }
 {
     if size == 1 {
         let column = columns[0];
@@ -228,10 +235,10 @@ fn determinant(
             column,
             entry_length(lengths, row, column),
             0,
-            p,
+            modulus.p,
         )
     } else {
-        expand_row(entries, lengths, tops, p, c, size, row, columns)
+        expand_row(entries, lengths, tops, modulus, size, row, columns)
     }
 }
 
@@ -242,15 +249,14 @@ fn expand_row(
     entries: &[u32; ENTRY_COEFFICIENTS],
     lengths: &[usize; SQUARE],
     tops: &[usize; ROWS],
-    p: u32,
-    c: u32,
+    modulus: Modulus,
     size: usize,
     row: usize,
     columns: &[usize; ROWS],
 ) -> [u32; CAPACITY]
-    requires { ⌜ Asked p c size row (now entries) (now lengths) (now tops) (now columns) ⌝ }
+    requires { ⌜ Asked modulus size row (now entries) (now lengths) (now tops) (now columns) ⌝ }
     requires { ⌜ 2 ≤ size ⌝ }
-    ensures { λ r. ⌜ Determinant p size row (now (entries .entry)) (now (tops .entry)) (now (columns .entry)) r ⌝ }
+    ensures { λ r. ⌜ Determinant (modulus .p) size row (now (entries .entry)) (now (tops .entry)) (now (columns .entry)) r ⌝ }
 {
     let mut sums = no_sums();
     for j in 0..size {
@@ -258,12 +264,12 @@ fn expand_row(
         let length = entry_length(lengths, row, column);
         if 0 < length {
             let left = without(columns, j);
-            let minor = determinant(entries, lengths, tops, p, c, size - 1, row + 1, &left);
-            let entry = signed_entry(entries, row, column, length, j, p);
-            add_product(&mut sums, &entry, length, &minor, tops[row + 1], c);
+            let minor = determinant(entries, lengths, tops, modulus, size - 1, row + 1, &left);
+            let entry = signed_entry(entries, row, column, length, j, modulus.p);
+            add_product(&mut sums, &entry, length, &minor, tops[row + 1], modulus);
         }
     }
-    residues(&sums, tops[row], p)
+    residues(&sums, tops[row], modulus.p)
 }
 
 // The larger of a power and the highest that an entry of the given length has room for.
@@ -348,21 +354,20 @@ fn unpadded(l: &[u32; CAPACITY], length: usize) -> Polynomial
 }
 
 // entries: the coefficients of an m × m matrix of polynomials modulo p, each below p, an entry's coefficients followed by zeros. lengths:
-// how many coefficients each entry has. p: from 2 to the largest prime that is allowed.
+// how many coefficients each entry has. modulus: its p is from 2 to the largest prime that is allowed.
 // The determinant of the matrix.
 pub fn determinant_of(
     entries: &[u32; ENTRY_COEFFICIENTS],
     lengths: &[usize; SQUARE],
-    p: u32,
+    modulus: Modulus,
     m: usize,
 ) -> Polynomial
-    requires { ⌜ Holds p m (now entries) (now lengths) ⌝ }
-    ensures { λ r. ⌜ Coefficients p (det (Series (K p)) m (cells p (now (entries .entry)))) r ⌝ }
+    requires { ⌜ Made modulus × Holds (modulus .p) m (now entries) (now lengths) ⌝ }
+    ensures { λ r. ⌜ Coefficients (modulus .p) (det (Series (K (modulus .p))) m (cells (modulus .p) (now (entries .entry)))) r ⌝ }
 {
     let tops = row_tops(lengths, m);
     let columns = all_columns();
-    let c = cut_mod(p);
-    let l = determinant(entries, lengths, &tops, p, c, m, 0, &columns);
+    let l = determinant(entries, lengths, &tops, modulus, m, 0, &columns);
     let length = length_of(&l, tops[0] + 1);
     unpadded(&l, length)
 }

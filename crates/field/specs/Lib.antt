@@ -1,5 +1,5 @@
-pub mod Cut
 pub mod Laws
 pub mod Meant
+pub mod Modulus
 pub mod Table
 pub mod Unique

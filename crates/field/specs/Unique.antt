@@ -5,11 +5,12 @@ use Prim.Native.Nat.{ℕ, _+_, _-_, _*_, _%_}
 use Rattle.rules.specs.Inverse.{inverse}
 use Rattle.field.specs.declared.Inverse.{Inverse}
 use Rattle.field.specs.declared.Inverse.the-variants.{Of, None}
-use Rattle.field.specs.Cut.{cut}
 use Rattle.field.specs.Meant.{meant}
+use Rattle.field.specs.declared.Modulus.{Modulus}
+use Rattle.field.specs.Modulus.{modulus-of}
 
-pub cut-mod-unique : (p r s : ℕ) → r ≡ cut % p → s ≡ cut % p → r ≡ s
-cut-mod-unique p r s hr hs = hr ∙ sym hs
+pub modulus-of-unique : (p : ℕ) (r s : Modulus) → r ≡ modulus-of p → s ≡ modulus-of p → r ≡ s
+modulus-of-unique p r s hr hs = hr ∙ sym hs
 
 pub add-mod-unique : (a b p r s : ℕ) → r ≡ (a + b) % p → s ≡ (a + b) % p → r ≡ s
 add-mod-unique a b p r s hr hs = hr ∙ sym hs

@@ -3,21 +3,28 @@ ghost use mathlib.Core.Path.{_≡_};
 ghost use Prim.Native.Nat.{_+_, _-_, _*_, _%_, _<_};
 ghost use Rattle.algebra.specs.Prime.{Prime};
 ghost use Rattle.rules.specs.Inverse.{inverse, InverseOf};
-ghost use Rattle.field.specs.Cut.{cut};
 ghost use Rattle.field.specs.Meant.{meant};
+ghost use Rattle.field.specs.Modulus.{modulus-of};
 
 mod bench_field;
 
 // Where a sum of products is cut in two, so that it fits 64 bits: 2^40.
 pub const CUT: u64 = 1 << 40;
 
+// A modulus, and what sums of products are folded with: 2^40 modulo p.
+pub struct Modulus {
+    pub p: u32,
+    pub fold: u32,
+}
+
 // p: above 0.
-// 2^40 modulo p.
-pub fn cut_mod(p: u32) -> u32
+// The modulus p: this takes a division, and is done once for a claim.
+pub fn modulus_of(p: u32) -> Modulus
     requires { ⌜ 0 < p ⌝ }
-    ensures { λ r. ⌜ r ≡ cut % p ⌝ }
+    ensures { λ r. ⌜ r ≡ modulus-of p ⌝ }
 {
-    (CUT % p as u64) as u32
+    let fold = (CUT % p as u64) as u32;
+    Modulus { p, fold }
 }
 
 // a and b: numbers below p.

@@ -7,9 +7,10 @@ use mathlib.Core.Path.{_≡_}
 use mathlib.Core.List.{List}
 use Prim.Native.Nat.{ℕ, _+_, _-_, _*_, _/_, _%_, _^_, _≤_, _<_}
 use native.Mathlib.Omega.{arith}
-use Rattle.algebra.specs.Residue.{red-mod, red-eq}
+use Rattle.algebra.specs.Residue.{red-eq}
 use Rattle.rules.specs.Sizes.{largest-prime}
-use Rattle.field.specs.Cut.{cut, red-cut}
+use Rattle.field.specs.declared.Modulus.{Modulus}
+use Rattle.field.specs.Modulus.{cut, Made, red-fold}
 use Rattle.layout.specs.Holds.{Each}
 
 -- A sum of n products in two parts, and what it is after some more.
@@ -60,5 +61,5 @@ summed-more h g room e =
     }
 
 -- A sum that is kept in two parts, modulo p.
-pub fold-residue : (p high low : ℕ) → 0 < p → (high * (cut % p) + low) % p ≡ (high * cut + low) % p
-fold-residue p high low h = red-eq p h (high * (cut % p) + low) (high * cut + low) .0 (red-cut p (cut % p) high low (red-mod p cut))
+pub fold-residue : {μ : Modulus} → Made μ → (high low : ℕ) → (high * μ .fold + low) % μ .p ≡ (high * cut + low) % μ .p
+fold-residue {μ} made high low = red-eq (μ .p) (made .positive) (high * μ .fold + low) (high * cut + low) .0 (red-fold made high low)

@@ -2,13 +2,14 @@
 ghost use mathlib.Core.Path.{_≡_};
 ghost use Prim.Native.Nat.{_+_, _*_, _-_, _%_, _^_, _<_, _≤_};
 ghost use Rattle.rules.specs.Sizes.{most-rows, most-order, most-length};
-ghost use Rattle.field.specs.Cut.{cut};
+ghost use Rattle.field.specs.Modulus.{cut, modulus-of, Made};
 ghost use Rattle.layout.specs.Flat.{entry-coefficients, column-coefficients};
 ghost use Rattle.layout.specs.Holds.{Each, Padded};
 ghost use Rattle.product.specs.Total.{Grown, Within, Summed};
 ghost use Rattle.product.specs.Product.{Factors, dot, first-power, powers, pair-number, product-number, flat-product};
 use claim::Head;
 use field::CUT;
+use field::Modulus;
 use layout::COLUMN_COEFFICIENTS;
 use layout::ENTRY_COEFFICIENTS;
 use layout::ORDER;
@@ -133,35 +134,34 @@ fn entry_total<'a>(
     total
 }
 
-// total: a sum of products. p: the modulus. fold: 2^40 modulo p.
+// total: a sum of products.
 // The sum modulo p.
-fn residue(total: Total, p: u32, fold: u32) -> u32
-    requires { ⌜ (0 < p) × (p < 2 ^ 31) ⌝ }
+fn residue(total: Total, modulus: Modulus) -> u32
+    requires { ⌜ Made modulus ⌝ }
     requires { ⌜ Within (2 ^ 10) (total .high) (total .low) ⌝ }
-    requires { ⌜ fold ≡ cut % p ⌝ }
-    ensures { λ r. ⌜ r ≡ (total .high * cut + total .low) % p ⌝ }
+    ensures { λ r. ⌜ r ≡ (total .high * cut + total .low) % modulus .p ⌝ }
 {
-    let folded = total.high * wide(fold) + total.low;
-    (folded % wide(p)) as u32
+    let folded = total.high * wide(modulus.fold) + total.low;
+    (folded % wide(modulus.p)) as u32
 }
 
-// head, f, lengths, entries: of a claim. fold: 2^40 modulo p. i, j: a row and a column. k: a power, at most the largest order.
+// head, modulus, f, lengths, entries: of a claim. i, j: a row and a column. k: a power, at most the largest order.
 // The coefficient of P·F there at that power, modulo p.
 pub(crate) fn coefficient<'a>(
     head: Head,
+    modulus: Modulus,
     f: &'a [u32; COLUMN_COEFFICIENTS],
     lengths: &'a [usize; SQUARE],
     entries: &'a [u32; ENTRY_COEFFICIENTS],
-    fold: u32,
     i: usize,
     j: usize,
     k: usize,
 ) -> u32
     requires { ⌜ Factors (head .p) (now entries) (now lengths) (now f) ⌝ }
     requires { ⌜ (head .m ≤ most-rows) × ((i < most-rows) × ((j < most-rows) × (k ≤ most-order))) ⌝ }
-    requires { ⌜ fold ≡ cut % head .p ⌝ }
+    requires { ⌜ modulus ≡ modulus-of (head .p) ⌝ }
     ensures { λ r. ⌜ r ≡ flat-product (head .p) (now (entries .entry)) (now (f .entry)) (head .m) i j k .0 ⌝ }
 {
     let total = entry_total(head, f, lengths, entries, i, j, k);
-    residue(total, head.p, fold)
+    residue(total, modulus)
 }

@@ -5,13 +5,14 @@ ghost use Prim.Native.Nat.{_<_, _≤_};
 ghost use lib.ListN.{getD};
 ghost use Rattle.rules.specs.Conditions.{first-place};
 ghost use Rattle.rules.specs.Sizes.{most-rows};
+ghost use Rattle.field.specs.Modulus.{modulus-of};
 ghost use Rattle.layout.specs.Holds.{Ordered};
 ghost use Rattle.product.specs.Product.{Factors, flat-product};
 ghost use Rattle.product.specs.Faults.{flat-low-fault, flat-order-fault, place-of};
 ghost use Rattle.product.specs.Search.{First};
 use crate::coefficient::coefficient;
 use claim::Head;
-use field::cut_mod;
+use field::Modulus;
 use layout::COLUMN_COEFFICIENTS;
 use layout::ENTRY_COEFFICIENTS;
 use layout::SQUARE;
@@ -23,10 +24,11 @@ pub enum FirstFault {
     Nowhere,
 }
 
-// head, f, lengths, entries: of a claim. i, j: a row and a column.
+// head, modulus, f, lengths, entries: of a claim. i, j: a row and a column.
 // Whether some coefficient of P·F there below the column's order is not 0.
 fn low_fault<'a>(
     head: Head,
+    modulus: Modulus,
     f: &'a [u32; COLUMN_COEFFICIENTS],
     lengths: &'a [usize; SQUARE],
     entries: &'a [u32; ENTRY_COEFFICIENTS],
@@ -34,15 +36,14 @@ fn low_fault<'a>(
     j: usize,
 ) -> bool
     requires { ⌜ Factors (head .p) (now entries) (now lengths) (now f) ⌝ }
-    requires { ⌜ Ordered (head .orders) ⌝ }
+    requires { ⌜ (modulus ≡ modulus-of (head .p)) × Ordered (head .orders) ⌝ }
     requires { ⌜ (head .m ≤ most-rows) × ((i < most-rows) × (j < most-rows)) ⌝ }
     ensures { λ r. ⌜ r ≡ flat-low-fault head (now (f .entry)) (now (entries .entry)) i j ⌝ }
 {
     let order = head.orders[j];
-    let fold = cut_mod(head.p);
     let mut k = 0;
     while k < order {
-        if coefficient(head, f, lengths, entries, fold, i, j, k) != 0 {
+        if coefficient(head, modulus, f, lengths, entries, i, j, k) != 0 {
             return true;
         }
         k += 1;
@@ -50,10 +51,11 @@ fn low_fault<'a>(
     false
 }
 
-// head, f, lengths, entries: of a claim. i, j: a row and a column.
+// head, modulus, f, lengths, entries: of a claim. i, j: a row and a column.
 // The coefficient of P·F there at the column's order, modulo p: the number of C that is due, and that of the evidence.
 pub fn order_coefficient<'a>(
     head: Head,
+    modulus: Modulus,
     f: &'a [u32; COLUMN_COEFFICIENTS],
     lengths: &'a [usize; SQUARE],
     entries: &'a [u32; ENTRY_COEFFICIENTS],
@@ -61,26 +63,18 @@ pub fn order_coefficient<'a>(
     j: usize,
 ) -> u32
     requires { ⌜ Factors (head .p) (now entries) (now lengths) (now f) ⌝ }
-    requires { ⌜ Ordered (head .orders) ⌝ }
+    requires { ⌜ (modulus ≡ modulus-of (head .p)) × Ordered (head .orders) ⌝ }
     requires { ⌜ (head .m ≤ most-rows) × ((i < most-rows) × (j < most-rows)) ⌝ }
     ensures { λ r. ⌜ r ≡ flat-product (head .p) (now (entries .entry)) (now (f .entry)) (head .m) i j (getD (head .orders) j 0) .0 ⌝ }
 {
-    coefficient(
-        head,
-        f,
-        lengths,
-        entries,
-        cut_mod(head.p),
-        i,
-        j,
-        head.orders[j],
-    )
+    coefficient(head, modulus, f, lengths, entries, i, j, head.orders[j])
 }
 
-// head, f, lengths, entries, c: of a claim. i, j: a row and a column.
+// head, modulus, f, lengths, entries, c: of a claim. i, j: a row and a column.
 // Whether the coefficient of P·F there at the column's order differs from C's number.
 fn order_fault<'a>(
     head: Head,
+    modulus: Modulus,
     f: &'a [u32; COLUMN_COEFFICIENTS],
     lengths: &'a [usize; SQUARE],
     entries: &'a [u32; ENTRY_COEFFICIENTS],
@@ -89,33 +83,34 @@ fn order_fault<'a>(
     j: usize,
 ) -> bool
     requires { ⌜ Factors (head .p) (now entries) (now lengths) (now f) ⌝ }
-    requires { ⌜ Ordered (head .orders) ⌝ }
+    requires { ⌜ (modulus ≡ modulus-of (head .p)) × Ordered (head .orders) ⌝ }
     requires { ⌜ (head .m ≤ most-rows) × ((i < most-rows) × (j < most-rows)) ⌝ }
     ensures { λ r. ⌜ r ≡ flat-order-fault head (now (f .entry)) (now (entries .entry)) (now (c .entry)) i j ⌝ }
 {
-    let due = order_coefficient(head, f, lengths, entries, i, j);
+    let due = order_coefficient(head, modulus, f, lengths, entries, i, j);
     let given = c[square_place(i, j)];
     due != given
 }
 
-// head, f, lengths, entries: of a claim. i: a row.
+// head, modulus, f, lengths, entries: of a claim. i: a row.
 // The first column in that row with a fault below its order, or n.
 fn low_column<'a>(
     head: Head,
+    modulus: Modulus,
     f: &'a [u32; COLUMN_COEFFICIENTS],
     lengths: &'a [usize; SQUARE],
     entries: &'a [u32; ENTRY_COEFFICIENTS],
     i: usize,
 ) -> usize
     requires { ⌜ Factors (head .p) (now entries) (now lengths) (now f) ⌝ }
-    requires { ⌜ Ordered (head .orders) ⌝ }
+    requires { ⌜ (modulus ≡ modulus-of (head .p)) × Ordered (head .orders) ⌝ }
     requires { ⌜ (head .m ≤ most-rows) × ((head .n ≤ most-rows) × (i < most-rows)) ⌝ }
     ensures { λ r. ⌜ First (head .n) (flat-low-fault head (now (f .entry)) (now (entries .entry)) i) r ⌝ }
 {
     let n = head.n;
     let mut j = 0;
     while j < n {
-        if low_fault(head, f, lengths, entries, i, j) {
+        if low_fault(head, modulus, f, lengths, entries, i, j) {
             return j;
         }
         j += 1;
@@ -123,10 +118,11 @@ fn low_column<'a>(
     n
 }
 
-// head, f, lengths, entries, c: of a claim. i: a row.
+// head, modulus, f, lengths, entries, c: of a claim. i: a row.
 // The first column in that row with a fault at its order, or n.
 fn order_column<'a>(
     head: Head,
+    modulus: Modulus,
     f: &'a [u32; COLUMN_COEFFICIENTS],
     lengths: &'a [usize; SQUARE],
     entries: &'a [u32; ENTRY_COEFFICIENTS],
@@ -134,14 +130,14 @@ fn order_column<'a>(
     i: usize,
 ) -> usize
     requires { ⌜ Factors (head .p) (now entries) (now lengths) (now f) ⌝ }
-    requires { ⌜ Ordered (head .orders) ⌝ }
+    requires { ⌜ (modulus ≡ modulus-of (head .p)) × Ordered (head .orders) ⌝ }
     requires { ⌜ (head .m ≤ most-rows) × ((head .n ≤ most-rows) × (i < most-rows)) ⌝ }
     ensures { λ r. ⌜ First (head .n) (flat-order-fault head (now (f .entry)) (now (entries .entry)) (now (c .entry)) i) r ⌝ }
 {
     let n = head.n;
     let mut j = 0;
     while j < n {
-        if order_fault(head, f, lengths, entries, c, i, j) {
+        if order_fault(head, modulus, f, lengths, entries, c, i, j) {
             return j;
         }
         j += 1;
@@ -149,16 +145,17 @@ fn order_column<'a>(
     n
 }
 
-// head, f, lengths, entries: of a claim.
+// head, modulus, f, lengths, entries: of a claim.
 // "the first row that has a fault and in it the first column", of the faults below the orders.
 pub fn first_low_fault<'a>(
     head: Head,
+    modulus: Modulus,
     f: &'a [u32; COLUMN_COEFFICIENTS],
     lengths: &'a [usize; SQUARE],
     entries: &'a [u32; ENTRY_COEFFICIENTS],
 ) -> FirstFault
     requires { ⌜ Factors (head .p) (now entries) (now lengths) (now f) ⌝ }
-    requires { ⌜ Ordered (head .orders) ⌝ }
+    requires { ⌜ (modulus ≡ modulus-of (head .p)) × Ordered (head .orders) ⌝ }
     requires { ⌜ (head .m ≤ most-rows) × (head .n ≤ most-rows) ⌝ }
     ensures { λ r. ⌜ r ≡ place-of (first-place (head .m) (head .n) (flat-low-fault head (now (f .entry)) (now (entries .entry)))) ⌝ }
 {
@@ -166,7 +163,7 @@ pub fn first_low_fault<'a>(
     let n = head.n;
     let mut i = 0;
     while i < m {
-        let j = low_column(head, f, lengths, entries, i);
+        let j = low_column(head, modulus, f, lengths, entries, i);
         if j < n {
             return FirstFault::At(i, j);
         }
@@ -175,17 +172,18 @@ pub fn first_low_fault<'a>(
     FirstFault::Nowhere
 }
 
-// head, f, lengths, entries, c: of a claim.
+// head, modulus, f, lengths, entries, c: of a claim.
 // The same of the faults at the orders.
 pub fn first_order_fault<'a>(
     head: Head,
+    modulus: Modulus,
     f: &'a [u32; COLUMN_COEFFICIENTS],
     lengths: &'a [usize; SQUARE],
     entries: &'a [u32; ENTRY_COEFFICIENTS],
     c: &'a [u32; SQUARE],
 ) -> FirstFault
     requires { ⌜ Factors (head .p) (now entries) (now lengths) (now f) ⌝ }
-    requires { ⌜ Ordered (head .orders) ⌝ }
+    requires { ⌜ (modulus ≡ modulus-of (head .p)) × Ordered (head .orders) ⌝ }
     requires { ⌜ (head .m ≤ most-rows) × (head .n ≤ most-rows) ⌝ }
     ensures { λ r. ⌜ r ≡ place-of (first-place (head .m) (head .n) (flat-order-fault head (now (f .entry)) (now (entries .entry)) (now (c .entry)))) ⌝ }
 {
@@ -193,7 +191,7 @@ pub fn first_order_fault<'a>(
     let n = head.n;
     let mut i = 0;
     while i < m {
-        let column = order_column(head, f, lengths, entries, c, i);
+        let column = order_column(head, modulus, f, lengths, entries, c, i);
         if column < n {
             return FirstFault::At(i, column);
         }

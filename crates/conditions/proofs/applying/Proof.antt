@@ -13,13 +13,13 @@ abbrev claimed : tie.Start → Claim
 claimed s = claim-of (s .args .head) (now (s .args .f)) (now (s .args .lengths)) (now (s .args .entries)) (now (s .args .c))
 
 not-reduced-requires : tie.Need-not-reduced-requires
-not-reduced-requires c κs = let pre = c .before .pre in (pre .sound-head, pre .sound-basis)
+not-reduced-requires c κs = let pre = c .before .pre .0 in (pre .sound-head, pre .sound-basis)
 
 fault-if-requires : tie.Need-fault-if-requires
 fault-if-requires c κs = search needs
 
 determinant-of-requires : tie.Need-determinant-of-requires
-determinant-of-requires c κs = let pre = c .before .pre in square-of (pre .sound-head) (pre .sound-basis)
+determinant-of-requires c κs = square-of (c .before .pre .0 .sound-head) (c .before .pre .0 .sound-basis) (c .before .pre .1)
 
 is-monomial-requires : tie.Need-is-monomial-requires
 is-monomial-requires c κs = c .determinant-of .ensures .trimmed
@@ -28,13 +28,13 @@ fault-if-requires-2 : tie.Need-fault-if-requires-2
 fault-if-requires-2 c κs = search needs
 
 below-order-requires : tie.Need-below-order-requires
-below-order-requires c κs = let pre = c .before .pre in (pre .sound-head, (pre .sound-columns, pre .sound-basis))
+below-order-requires c κs = let pre = c .before .pre .0 in ((pre .sound-head, (pre .sound-columns, pre .sound-basis)), c .before .pre .1)
 
 at-order-requires : tie.Need-at-order-requires
-at-order-requires c κs = let pre = c .before .pre in (pre .sound-head, (pre .sound-columns, pre .sound-basis))
+at-order-requires c κs = let pre = c .before .pre .0 in ((pre .sound-head, (pre .sound-columns, pre .sound-basis)), c .before .pre .1)
 
 low-rank-requires : tie.Need-low-rank-requires
-low-rank-requires c κs = let pre = c .before .pre in (pre .sound-head, (pre .sound-basis .P-below, pre .C-below))
+low-rank-requires c κs = let pre = c .before .pre .0 in (pre .sound-head, (pre .sound-basis .P-below, pre .C-below))
 
 fault-if-requires-3 : tie.Need-fault-if-requires-3
 fault-if-requires-3 c κs = search needs
@@ -45,7 +45,7 @@ returns c =
     let a = s .args in
     let test = c .before .not-reduced in
     found-as (claimed s) (c .before .before .match .keys1) (c .fault-if .ensures)
-    (found-not-reduced (a .head) (now (a .f)) (now (a .lengths)) (now (a .entries)) (now (a .c)) (s .pre) (test .result) (test .ensures))
+    (found-not-reduced (a .head) (now (a .f)) (now (a .lengths)) (now (a .entries)) (now (a .c)) (s .pre .0) (test .result) (test .ensures))
 
 returns-2 : tie.Need-returns-2
 returns-2 c =
@@ -54,21 +54,21 @@ returns-2 c =
     let test = c .before .is-monomial in
     let settled = tests-monomial (c .before .before .determinant-of .ensures) (test .ensures) in
     found-as (claimed s) (c .before .before .before .match .keys2) (c .fault-if2 .ensures)
-    (found-not-monomial (a .head) (now (a .f)) (now (a .lengths)) (now (a .entries)) (now (a .c)) (s .pre) (test .result) settled)
+    (found-not-monomial (a .head) (now (a .f)) (now (a .lengths)) (now (a .entries)) (now (a .c)) (s .pre .0) (test .result) (s .pre .1) settled)
 
 returns-3 : tie.Need-returns-3
 returns-3 c =
     let s = c .before .before in
     let a = s .args in
     found-as (claimed s) (c .before .match .keys3) (c .below-order .ensures)
-    (found-below (a .head) (now (a .f)) (now (a .lengths)) (now (a .entries)) (now (a .c)) (s .pre))
+    (found-below (a .head) (now (a .f)) (now (a .lengths)) (now (a .entries)) (now (a .c)) (s .pre .0))
 
 returns-4 : tie.Need-returns-4
 returns-4 c =
     let s = c .before .before in
     let a = s .args in
     found-as (claimed s) (c .before .match .keys4) (c .at-order .ensures)
-    (found-at (a .head) (now (a .f)) (now (a .lengths)) (now (a .entries)) (now (a .c)) (s .pre))
+    (found-at (a .head) (now (a .f)) (now (a .lengths)) (now (a .entries)) (now (a .c)) (s .pre .0))
 
 returns-5 : tie.Need-returns-5
 returns-5 c =
@@ -76,7 +76,7 @@ returns-5 c =
     let a = s .args in
     let test = c .before .low-rank in
     found-as (claimed s) (c .before .before .match .keys5) (c .fault-if3 .ensures)
-    (found-low-rank (a .head) (now (a .f)) (now (a .lengths)) (now (a .entries)) (now (a .c)) (s .pre) (test .result) (test .ensures))
+    (found-low-rank (a .head) (now (a .f)) (now (a .lengths)) (now (a .entries)) (now (a .c)) (s .pre .0) (test .result) (test .ensures))
 
 returns-6 : tie.Need-returns-6
 returns-6 c =

@@ -12,8 +12,8 @@ use Rattle.conditions.proofs.at_order.Tie as tie
 
 first-order-fault-requires : tie.Need-first-order-fault-requires
 first-order-fault-requires c κs =
-    let sound = c .pre .0 in
-    (factors-of sound (c .pre .1 .0) (c .pre .1 .1), (sound .orders-most, (sound .rows-most, sound .columns-most)))
+    let sound = c .pre .0 .0 in
+    (factors-of sound (c .pre .0 .1 .0) (c .pre .0 .1 .1), ((c .pre .1, sound .orders-most), (sound .rows-most, sound .columns-most)))
 
 enum-known-i : tie.Need-enum-known-i
 enum-known-i c = search needs
@@ -36,11 +36,11 @@ place c =
 
 cast-in-row : tie.Need-cast-in-row
 unfolding most-rows
-cast-in-row c = let sound = c .before .before .before .before .pre .0 in record { fits = omega (arith, place c .0, place c .1, sound .rows-most, sound .columns-most) }
+cast-in-row c = let sound = c .before .before .before .before .pre .0 .0 in record { fits = omega (arith, place c .0, place c .1, sound .rows-most, sound .columns-most) }
 
 cast-in-column : tie.Need-cast-in-column
 unfolding most-rows
-cast-in-column c = let sound = c .before .before .before .before .pre .0 in record { fits = omega (arith, place c .0, place c .1, sound .rows-most, sound .columns-most) }
+cast-in-column c = let sound = c .before .before .before .before .pre .0 .0 in record { fits = omega (arith, place c .0, place c .1, sound .rows-most, sound .columns-most) }
 
 returns-2 : tie.Need-returns-2
 returns-2 c =

@@ -17,27 +17,30 @@ use Rattle.conditions.proofs.conditions.Statement.{statement}
 use Rattle.conditions.proofs.conditions.Tie as tie
 
 abbrev Inv-loop : tie.InvT-loop
-Inv-loop head f lengths entries c code₀ code = Tried (claim-of head f lengths entries c) code
+Inv-loop head f lengths entries c modulus code₀ code = Tried (claim-of head f lengths entries c) code
 
 abbrev μ-loop : tie.MeasureT-loop
-μ-loop head f lengths entries c code₀ code = 14 - code
+μ-loop head f lengths entries c modulus code₀ code = 14 - code
 
 -- The claim that the arrays stand for.
 abbrev claimed : tie.Start Inv-loop μ-loop → Claim
 claimed s = claim-of (s .args .head) (now (s .args .f)) (now (s .args .lengths)) (now (s .args .entries)) (now (s .args .c))
 
+modulus-of-requires : tie.Need-modulus-of-requires Inv-loop μ-loop
+modulus-of-requires c κs = omega (arith, c .pre .sound-head .prime .two-le)
+
 loop-holds : tie.Need-loop-holds Inv-loop μ-loop
-loop-holds c = none-tried (claimed c)
+loop-holds c = none-tried (claimed (c .before))
 
 applying-requires : tie.Need-applying-requires Inv-loop μ-loop
-applying-requires c κs = search needs
+applying-requires c κs = (c .before .before .before .pre, c .before .before .modulus-of .ensures)
 
 enum-known-v : tie.Need-enum-known-v Inv-loop μ-loop
 enum-known-v c = search needs
 
 returns : tie.Need-returns Inv-loop μ-loop
 returns c =
-    let s = c .before .before .before .before .before .before in
+    let s = c .before .before .before .before .before .before .before in
     let l = c .before .before .before .before .before .loop in
     let found = c .before .before .before .applying in
     let v = c .before .v .given in
@@ -54,13 +57,13 @@ loop-less c = search needs
 
 loop-again : tie.Need-loop-again Inv-loop μ-loop
 loop-again c =
-    let s = c .before .before .before .before .before in
+    let s = c .before .before .before .before .before .before in
     let l = c .before .before .before .before .loop in
     let found = c .before .before .applying in
     tried-one (claimed s) (l .code) (omega arith) (l .inv) (sym (ap finding (c .enum-told .given .1)) ∙ found .ensures)
 
 degree-sum-requires : tie.Need-degree-sum-requires Inv-loop μ-loop
-degree-sum-requires c κs = let pre = c .before .before .pre in (sized-of (pre .sound-head) (pre .sound-basis), pre .sound-head .rows-most)
+degree-sum-requires c κs = let pre = c .before .before .before .pre in (sized-of (pre .sound-head) (pre .sound-basis), pre .sound-head .rows-most)
 
 enum-known-sum : tie.Need-enum-known-sum Inv-loop μ-loop
 enum-known-sum c = search needs
@@ -70,7 +73,7 @@ enum-told-2 c = search needs
 
 returns-2 : tie.Need-returns-2 Inv-loop μ-loop
 returns-2 c =
-    let s = c .before .before .before .before .before in
+    let s = c .before .before .before .before .before .before in
     let a = s .args in
     let l = c .before .before .before .before .loop in
     all-tried (claimed s) (l .code) not-reduced (omega arith) (l .inv)
@@ -82,7 +85,7 @@ not-negative-requires c κs = search needs
 
 returns-3 : tie.Need-returns-3 Inv-loop μ-loop
 returns-3 c =
-    let s = c .before .before .before .before .before .before .before in
+    let s = c .before .before .before .before .before .before .before .before in
     let a = s .args in
     let l = c .before .before .before .before .before .before .loop in
     let sum = c .before .before .sum .given in
@@ -98,6 +101,7 @@ conditions-spec =
     (tie.spec
     Inv-loop
     μ-loop
+    modulus-of-requires
     loop-holds
     applying-requires
     enum-known-v

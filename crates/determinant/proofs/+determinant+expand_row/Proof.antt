@@ -29,10 +29,10 @@ use Rattle.determinant.proofs.+determinant+expand_row.{statement}
 use Rattle.determinant.proofs.+determinant+expand_row.Tie.{close}
 
 abbrev μ-determinant : Measures 4 determinant-kinds.ps ℕ
-μ-determinant κs a = a .1 .1 .1 .1 .1 .0 + a .1 .1 .1 .1 .1 .0 + 1
+μ-determinant κs a = a .1 .1 .1 .1 .0 + a .1 .1 .1 .1 .0 + 1
 
 abbrev μ-expand-row : Measures 4 expand-row-kinds.ps ℕ
-μ-expand-row κs a = a .1 .1 .1 .1 .1 .0 + a .1 .1 .1 .1 .1 .0
+μ-expand-row κs a = a .1 .1 .1 .1 .0 + a .1 .1 .1 .1 .0
 
 -- what `determinant` is given at the measure t, and what a call of it asks below t
 abbrev determinant-at : ℕ → In 4 determinant-kinds.ps
@@ -109,19 +109,19 @@ determinant-returns t c =
     let a = c .before .before .before .before .args in
     let l = c .signed-entry .result in
     let one = c .before .before .before .if1 .taken in
-    let asked = subst (λ n. Asked (a .p) (a .c) n (a .row) (a .entries .now) (a .lengths .now) (a .tops .now) (a .columns .now)) one (c .before .before .before .before .pre .1) in
-    let entry = subst (λ n. SignedEntry (a .p) (a .row) (getD (a .columns .now) 0 0) n 0 (a .entries .now) l) (c .before .entry-length .ensures) (c .signed-entry .ensures) in
-    subst (λ n. Determinant (a .p) n (a .row) (a .entries .now) (a .tops .now) (a .columns .now) l) (sym one) (determinant-one asked entry)
+    let asked = subst (λ n. Asked (a .modulus) n (a .row) (a .entries .now) (a .lengths .now) (a .tops .now) (a .columns .now)) one (c .before .before .before .before .pre .1) in
+    let entry = subst (λ n. SignedEntry (a .modulus .p) (a .row) (getD (a .columns .now) 0 0) n 0 (a .entries .now) l) (c .before .entry-length .ensures) (c .signed-entry .ensures) in
+    subst (λ n. Determinant (a .modulus .p) n (a .row) (a .entries .now) (a .tops .now) (a .columns .now) l) (sym one) (determinant-one asked entry)
 
 determinant-returns-2 : (t : ℕ) → determinant-lts.Need-returns-2 (determinant-calls t) (determinant-at t) determinant.Post
 determinant-returns-2 t c = c .expand-row .ensures
 
 -- The sums hold the first j terms of the expansion.
 abbrev expand-row-Inv-loop : expand-row-lts.InvT-loop
-expand-row-Inv-loop entries lengths tops p c size row columns sums₀ j₀ sums j = (j ≤ size) × ((lib.ListN.length sums ≡ capacity) × Expanded p row (size - 1) j entries tops columns sums)
+expand-row-Inv-loop entries lengths tops modulus size row columns sums₀ j₀ sums j = (j ≤ size) × ((lib.ListN.length sums ≡ capacity) × Expanded (modulus .p) row (size - 1) j entries tops columns sums)
 
 abbrev expand-row-μ-loop : expand-row-lts.MeasureT-loop
-expand-row-μ-loop entries lengths tops p c size row columns sums₀ j₀ sums j = size - j
+expand-row-μ-loop entries lengths tops modulus size row columns sums₀ j₀ sums j = size - j
 
 expand-row-no-sums-requires : (t : ℕ)
     → expand-row-lts.Need-no-sums-requires (expand-row-calls t) (expand-row-at t) expand-row.Post expand-row-Inv-loop expand-row-μ-loop
@@ -132,11 +132,11 @@ expand-row-loop-holds : (t : ℕ)
 expand-row-loop-holds t c =
     let a = c .before .args in
     let sums = c .no-sums .ensures in
-    let start = expanded-none (a .p) (a .row) (a .size - 1) (a .entries .now) (a .tops .now) (a .columns .now) in (
+    let start = expanded-none (a .modulus .p) (a .row) (a .size - 1) (a .entries .now) (a .tops .now) (a .columns .now) in (
       omega arith,
       (
         ap lib.ListN.length sums ∙ length-replicate {A = ℕ} capacity 0,
-        subst (Expanded (a .p) (a .row) (a .size - 1) 0 (a .entries .now) (a .tops .now) (a .columns .now)) (sym sums) start,
+        subst (Expanded (a .modulus .p) (a .row) (a .size - 1) 0 (a .entries .now) (a .tops .now) (a .columns .now)) (sym sums) start,
       ),
     )
 
@@ -216,7 +216,7 @@ expand-row-add-product-requires t c κs =
     let asked = start .pre .1 .0 in
     let turn : loop .j < start .args .size = c .before .before .before .before .before .before .before .before .before .before .before .loop-test .taken in
     let fits = product-fits (asked-suc asked) {j = loop .j} (omega arith) (sym (length .ensures)) in (
-      (fits, (asked-below asked (asked .small), loop .inv .1 .0)),
+      (fits, (asked .made, loop .inv .1 .0)),
       (λ i. asked-below asked (entry .ensures .small i), λ i. asked-below asked (minor .ensures .small i)),
     )
 
@@ -238,7 +238,7 @@ expand-row-loop-again t c =
     let loop = c .before .before .before .before .loop in
     let length = c .before .entry-length in
     let turn : loop .j < suc (a .size - 1) = omega arith in
-    let done = Expanded (a .p) (a .row) (a .size - 1) (loop .j + 1) (a .entries .now) (a .tops .now) (a .columns .now) in (
+    let done = Expanded (a .modulus .p) (a .row) (a .size - 1) (loop .j + 1) (a .entries .now) (a .tops .now) (a .columns .now) in (
       omega arith,
       ⊎-elim
           (λ w. (
@@ -278,8 +278,8 @@ expand-row-returns t c =
     let l = c .residues .result in
     let size : suc (a .size - 1) ≡ a .size = omega (arith, asked .some) in
     let end : loop .j ≡ suc (a .size - 1) = omega arith in
-    let done = subst (λ j. Expanded (a .p) (a .row) (a .size - 1) j (a .entries .now) (a .tops .now) (a .columns .now) (loop .sums)) end (loop .inv .1 .1) in
-    subst (λ n. Determinant (a .p) n (a .row) (a .entries .now) (a .tops .now) (a .columns .now) l) size (expanded-all (asked-suc asked) done (c .residues .ensures))
+    let done = subst (λ j. Expanded (a .modulus .p) (a .row) (a .size - 1) j (a .entries .now) (a .tops .now) (a .columns .now) (loop .sums)) end (loop .inv .1 .1) in
+    subst (λ n. Determinant (a .modulus .p) n (a .row) (a .entries .now) (a .tops .now) (a .columns .now) l) size (expanded-all (asked-suc asked) done (c .residues .ensures))
 
 pub +determinant+expand-row-spec : {M : Type 1} → statement M
 +determinant+expand-row-spec = close μ-determinant μ-expand-row (λ t. determinant-lts.spec (determinant-calls t)

@@ -10,10 +10,10 @@ use Rattle.determinant.proofs.add_product.Statement.{statement}
 use Rattle.determinant.proofs.add_product.Tie as tie
 
 abbrev Inv-loop : tie.InvT-loop
-Inv-loop sums₀ entry count minor top c at₀ sums at = (at ≤ count + 2) × ((length sums ≡ capacity) × ProductLeft c top at entry minor sums₀ sums)
+Inv-loop sums₀ entry count minor top modulus at₀ sums at = (at ≤ count + 2) × ((length sums ≡ capacity) × ProductLeft (modulus .p) top at entry minor sums₀ sums)
 
 abbrev μ-loop : tie.MeasureT-loop
-μ-loop sums₀ entry count minor top c at₀ sums at = count + 2 - at
+μ-loop sums₀ entry count minor top modulus at₀ sums at = count + 2 - at
 
 loop-holds : tie.Need-loop-holds Inv-loop μ-loop
 loop-holds c = (omega arith, (c .pre .0 .1 .1, product-start))

@@ -10,10 +10,10 @@ use Rattle.determinant.proofs.add_triple.Statement.{statement}
 use Rattle.determinant.proofs.add_triple.Tie as tie
 
 abbrev Inv-loop : tie.InvT-loop
-Inv-loop sums₀ entry at minor top c x y z k₀ k-end sums k = (k ≤ k-end) × ((length sums ≡ capacity) × TripleLeft c at k x y z minor sums₀ sums)
+Inv-loop sums₀ entry at minor top modulus x y z k₀ k-end sums k = (k ≤ k-end) × ((length sums ≡ capacity) × TripleLeft (modulus .p) at k x y z minor sums₀ sums)
 
 abbrev μ-loop : tie.MeasureT-loop
-μ-loop sums₀ entry at minor top c x y z k₀ k-end sums k = k-end - k
+μ-loop sums₀ entry at minor top modulus x y z k₀ k-end sums k = k-end - k
 
 add-x : tie.Need-add-x Inv-loop μ-loop
 unfolding capacity most-power most-rows most-length
@@ -111,7 +111,7 @@ returns c =
     let at-loop = c .before .loop in
     record {
       long = at-loop .inv .1 .0;
-      same = λ p h zeros. triple-done (at-loop .inv .1 .1) p h (λ i le. zeros i (omega arith));
+      same = λ zeros. triple-done (at-loop .inv .1 .1) (λ i le. zeros i (omega arith));
     }
 
 pub add-triple-spec : {M : Type 1} → statement M

@@ -15,32 +15,29 @@ use Rattle.determinant.proofs.determinant_of.Statement.{statement}
 use Rattle.determinant.proofs.determinant_of.Tie as tie
 
 row-tops-requires : tie.Need-row-tops-requires
-row-tops-requires c κs = (c .pre .few-rows, λ i. omega (arith, c .pre .padded .length-most i))
+row-tops-requires c κs = (c .pre .1 .few-rows, λ i. omega (arith, c .pre .1 .padded .length-most i))
 
 all-columns-requires : tie.Need-all-columns-requires
 all-columns-requires c κs = search needs
 
-cut-mod-requires : tie.Need-cut-mod-requires
-cut-mod-requires c κs = omega (arith, c .before .before .pre .two-le)
-
 determinant-requires : tie.Need-determinant-requires
 determinant-requires c κs =
-    let b = c .before .before .before .before .before in
-    let columns = c .before .before .before .all-columns in
-    asked-whole (columns .result) (b .pre) (c .before .before .before .before .row-tops .ensures) (columns .ensures) (c .before .before .cut-mod .ensures)
+    let b = c .before .before .before .before in
+    let columns = c .before .before .all-columns in
+    asked-whole (columns .result) (b .pre .0) (b .pre .1) (c .before .before .before .row-tops .ensures) (columns .ensures)
 
 abbrev rows : tie.After-determinant → tie.After-row-tops
-rows c = c .before .before .before .before .before
+rows c = c .before .before .before .before
 
 -- The array stands for the determinant of the matrix.
 whole : (c : tie.After-determinant)
     → let s = rows c .before in
-    StandsFor (s .args .p) (getD (rows c .row-tops .result) 0 0) (det (Series (K (s .args .p))) (s .args .m) (cells (s .args .p) (s .args .entries .now))) (c .determinant .result)
+    StandsFor (s .args .modulus .p) (getD (rows c .row-tops .result) 0 0) (det (Series (K (s .args .modulus .p))) (s .args .m) (cells (s .args .modulus .p) (s .args .entries .now))) (c .determinant .result)
 whole c =
     let s = rows c .before in
-    let columns = c .before .before .before .before .all-columns in
-    subst (λ f. StandsFor (s .args .p) (getD (rows c .row-tops .result) 0 0) f (c .determinant .result))
-    (whole-square (s .args .p) (s .args .m) (s .args .entries .now) (columns .result) (s .pre .few-rows) (columns .ensures)) (c .determinant .ensures)
+    let columns = c .before .before .before .all-columns in
+    subst (λ f. StandsFor (s .args .modulus .p) (getD (rows c .row-tops .result) 0 0) f (c .determinant .result))
+    (whole-square (s .args .modulus .p) (s .args .m) (s .args .entries .now) (columns .result) (s .pre .1 .few-rows) (columns .ensures)) (c .determinant .ensures)
 
 array-read-length-of : tie.Need-array-read-length-of
 array-read-length-of c = search needs
@@ -66,7 +63,6 @@ determinant-of-spec =
     (tie.spec
     row-tops-requires
     all-columns-requires
-    cut-mod-requires
     determinant-requires
     array-read-length-of
     add-length-of

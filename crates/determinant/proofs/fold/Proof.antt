@@ -1,16 +1,20 @@
+use borrow.Author.Needs.{needs}
 use native.Mathlib.Omega.{arith}
 use Rattle.determinant.specs.Fold.{high-small, folded}
 use Rattle.determinant.proofs.fold.Statement.{statement}
 use Rattle.determinant.proofs.fold.Tie as tie
 
+cast-result : tie.Need-cast-result
+cast-result c = search needs
+
 mul-result : tie.Need-mul-result
-mul-result c = omega (arith, high-small (c .fits .v .fits) (c .pre))
+mul-result c = omega (arith, high-small (c .before .pre) (c .before .fits .v .fits))
 
 add-result : tie.Need-add-result
-add-result c = omega (arith, high-small (c .fits .v .fits) (c .pre))
+add-result c = omega (arith, high-small (c .before .pre) (c .before .fits .v .fits))
 
 returns : tie.Need-returns
-returns c = folded (c .fits .v .fits) (c .pre)
+returns c = folded (c .before .pre) (c .before .fits .v .fits)
 
 pub fold-spec : {M : Type 1} → statement M
-fold-spec = tie.close (tie.spec mul-result add-result returns)
+fold-spec = tie.close (tie.spec cast-result mul-result add-result returns)

@@ -11,10 +11,10 @@ use Rattle.evidence.proofs.put_row.Statement.{statement}
 use Rattle.evidence.proofs.put_row.Tie as tie
 
 abbrev Inv-loop : tie.InvT-loop
-Inv-loop out₀ at head f lengths entries i n end₀ j₀ out end j = RowPut (problem-of head f) (basis-of (head .m) lengths entries) i at out₀ out end j
+Inv-loop out₀ at head modulus f lengths entries i n end₀ j₀ out end j = RowPut (problem-of head f) (basis-of (head .m) lengths entries) i at out₀ out end j
 
 abbrev μ-loop : tie.MeasureT-loop
-μ-loop out₀ at head f lengths entries i n end₀ j₀ out end j = n - j
+μ-loop out₀ at head modulus f lengths entries i n end₀ j₀ out end j = n - j
 
 -- The problem and the basis that the arrays stand for.
 abbrev problem : tie.Start Inv-loop μ-loop → Problem
@@ -31,14 +31,14 @@ order-coefficient-requires c κs =
     let start = c .before .before .before in
     let sound = start .pre .0 .0 in (
       factors-of sound (start .pre .0 .1 .0) (start .pre .0 .1 .1),
-      (sound .orders-most, (sound .rows-most, (omega (arith, start .pre .1 .0, sound .rows-most), omega (arith, sound .columns-most)))),
+      ((start .pre .1 .0, sound .orders-most), (sound .rows-most, (omega (arith, start .pre .1 .1 .0, sound .rows-most), omega (arith, sound .columns-most)))),
     )
 
 put4-requires : tie.Need-put4-requires Inv-loop μ-loop
 put4-requires c κs =
     let start = c .before .before .before .before .before in
     let l = c .before .before .before .loop in
-    omega (arith, start .pre .1 .1, l .inv .place, l .inv .put .same-length)
+    omega (arith, start .pre .1 .1 .1, l .inv .place, l .inv .put .same-length)
 
 add-j : tie.Need-add-j Inv-loop μ-loop
 add-j c = search needs
@@ -54,7 +54,7 @@ loop-again c =
     let v = c .before .before .before .before .order-coefficient in
     row-more (problem s) (basis s) (a .at) (a .out .now) (a .i) (l .out) (c .before .before .put4 .last .0) (l .end) (c .before .before .put4 .result) (l .j) (v .result)
     (omega arith) (l .inv)
-    (v .ensures ∙ order-rules (a .head) (a .f .now) (a .lengths .now) (a .entries .now) (s .pre .0 .0) (s .pre .0 .1 .0) (s .pre .0 .1 .1) (a .i) (l .j) (s .pre .1 .0) (omega arith))
+    (v .ensures ∙ order-rules (a .head) (a .f .now) (a .lengths .now) (a .entries .now) (s .pre .0 .0) (s .pre .0 .1 .0) (s .pre .0 .1 .1) (a .i) (l .j) (s .pre .1 .1 .0) (omega arith))
     (c .before .before .put4 .ensures)
 
 same-length : tie.Need-same-length Inv-loop μ-loop

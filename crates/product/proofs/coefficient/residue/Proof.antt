@@ -3,7 +3,7 @@ use mathlib.Core.Path.{ap, _∙_}
 use native.Mathlib.Nat.{mod-lt, mul-le-mul}
 use native.Mathlib.Omega.{arith}
 use Prim.Native.Nat.{_+_, _*_, _^_, _%_, _≤_}
-use Rattle.field.specs.Cut.{cut}
+use Rattle.field.specs.Modulus.{fold-small}
 use Rattle.product.specs.Total.{fold-residue}
 use Rattle.product.proofs.coefficient.residue.Statement.{statement}
 use Rattle.product.proofs.coefficient.residue.Tie as tie
@@ -12,8 +12,8 @@ use Rattle.product.proofs.coefficient.residue.Tie as tie
 high-fold : (c : tie.After-wide) → c .before .args .total .high * c .wide .result ≤ 2 ^ 63
 high-fold c =
     let s = c .before in
-    let small : c .wide .result ≤ 2 ^ 31 = omega (arith, c .wide .ensures, s .pre .1 .1, mod-lt cut (s .pre .0 .0)) in
-    mul-le-mul (s .pre .1 .0 .high-most) small
+    let small : c .wide .result ≤ 2 ^ 31 = omega (arith, c .wide .ensures, fold-small (s .pre .0)) in
+    mul-le-mul (s .pre .1 .high-most) small
 
 wide-requires : tie.Need-wide-requires
 wide-requires c κs = search needs
@@ -22,7 +22,7 @@ mul-folded : tie.Need-mul-folded
 mul-folded c = record { fits = omega (arith, high-fold (c .before)) }
 
 add-folded : tie.Need-add-folded
-add-folded c = record { fits = omega (arith, high-fold (c .before .before), c .before .before .before .pre .1 .0 .low-most) }
+add-folded c = record { fits = omega (arith, high-fold (c .before .before), c .before .before .before .pre .1 .low-most) }
 
 wide-requires-2 : tie.Need-wide-requires-2
 wide-requires-2 c κs = search needs
@@ -40,8 +40,8 @@ returns c =
     let w = c .before .before .before in
     let s = w .before in
     ap (λ n. (s .args .total .high * w .wide .result + s .args .total .low) % n) (c .wide2 .ensures)
-    ∙ ap (λ n. (s .args .total .high * n + s .args .total .low) % s .args .p) (w .wide .ensures ∙ s .pre .1 .1)
-    ∙ fold-residue (s .args .p) (s .args .total .high) (s .args .total .low) (s .pre .0 .0)
+    ∙ ap (λ n. (s .args .total .high * n + s .args .total .low) % s .args .modulus .p) (w .wide .ensures)
+    ∙ fold-residue (s .pre .0) (s .args .total .high) (s .args .total .low)
 
 pub residue-spec : {M : Type 1} → statement M
 residue-spec =

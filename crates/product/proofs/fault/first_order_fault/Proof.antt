@@ -11,10 +11,10 @@ use Rattle.product.proofs.fault.first_order_fault.Statement.{statement}
 use Rattle.product.proofs.fault.first_order_fault.Tie as tie
 
 abbrev Inv-loop : tie.InvT-loop
-Inv-loop head f lengths entries c m n i₀ i = (i ≤ m) × ((r : ℕ) → r < i → Fails n (flat-order-fault head f entries c r))
+Inv-loop head modulus f lengths entries c m n i₀ i = (i ≤ m) × ((r : ℕ) → r < i → Fails n (flat-order-fault head f entries c r))
 
 abbrev μ-loop : tie.MeasureT-loop
-μ-loop head f lengths entries c m n i₀ i = m - i
+μ-loop head modulus f lengths entries c m n i₀ i = m - i
 
 loop-holds : tie.Need-loop-holds Inv-loop μ-loop
 loop-holds c = (search needs, below-none _)

@@ -12,10 +12,10 @@ use Rattle.product.proofs.fault.low_fault.Statement.{statement}
 use Rattle.product.proofs.fault.low_fault.Tie as tie
 
 abbrev Inv-loop : tie.InvT-loop
-Inv-loop f lengths entries i j head order fold k₀ k = (k ≤ order) × Fails k (low-test head f entries i j)
+Inv-loop modulus f lengths entries i j head order k₀ k = (k ≤ order) × Fails k (low-test head f entries i j)
 
 abbrev μ-loop : tie.MeasureT-loop
-μ-loop f lengths entries i j head order fold k₀ k = order - k
+μ-loop modulus f lengths entries i j head order k₀ k = order - k
 
 mul-order : tie.Need-mul-order Inv-loop μ-loop
 unfolding most-rows
@@ -25,24 +25,21 @@ element-copy-out-order : tie.Need-element-copy-out-order Inv-loop μ-loop
 unfolding most-rows
 element-copy-out-order c = search needs
 
-cut-mod-requires : tie.Need-cut-mod-requires Inv-loop μ-loop
-cut-mod-requires c κs = c .before .pre .0 .modulus-positive
-
 loop-holds : tie.Need-loop-holds Inv-loop μ-loop
 loop-holds c = (search needs, below-none _)
 
 coefficient-requires : tie.Need-coefficient-requires Inv-loop μ-loop
 coefficient-requires c κs =
-    let s = c .before .before .before .before in
+    let s = c .before .before .before in
     let rest = s .pre .1 .1 in (
       s .pre .0,
-      ((rest .0, (rest .1 .0, (rest .1 .1, le-trans (le-of-lt (c .loop-test .taken)) (s .pre .1 .0 (s .args .j))))), c .before .before .cut-mod .ensures),
+      ((rest .0, (rest .1 .0, (rest .1 .1, le-trans (le-of-lt (c .loop-test .taken)) (s .pre .1 .0 .1 (s .args .j))))), s .pre .1 .0 .0),
     )
 
 returns : tie.Need-returns Inv-loop μ-loop
 unfolding flat-low-fault
 returns c =
-    let s = c .before .before .before .before .before .before in
+    let s = c .before .before .before .before .before in
     let k = c .before .before .before .loop .k in
     sym (some-below-hit (getD (s .args .t1 .orders) (s .args .j) 0) (low-test (s .args .t1) (s .args .f .now) (s .args .entries .now) (s .args .i) (s .args .j)) k
     (c .before .before .loop-test .taken)
@@ -51,15 +48,15 @@ returns c =
 add-k : tie.Need-add-k Inv-loop μ-loop
 unfolding most-order
 add-k c =
-    let s = c .before .before .before .before .before .before in
-    omega (arith, s .pre .1 .0 (s .args .j))
+    let s = c .before .before .before .before .before in
+    omega (arith, s .pre .1 .0 .1 (s .args .j))
 
 loop-less : tie.Need-loop-less Inv-loop μ-loop
 loop-less c = search needs
 
 loop-again : tie.Need-loop-again Inv-loop μ-loop
 loop-again c =
-    let s = c .before .before .before .before .before .before in (
+    let s = c .before .before .before .before .before in (
       search needs,
       below-more _ _ (c .before .before .before .loop .inv .1)
           (low-test-zero (s .args .t1) (s .args .f .now) (s .args .entries .now) (s .args .i) (s .args .j) (c .before .before .before .loop .k)
@@ -69,7 +66,7 @@ loop-again c =
 returns-2 : tie.Need-returns-2 Inv-loop μ-loop
 unfolding flat-low-fault
 returns-2 c =
-    let s = c .before .before .before .before in
+    let s = c .before .before .before in
     sym (some-below-fails (getD (s .args .t1 .orders) (s .args .j) 0) (low-test (s .args .t1) (s .args .f .now) (s .args .entries .now) (s .args .i) (s .args .j))
     (λ k b. c .before .loop .inv .1 k (lt-of-lt-of-le b (c .loop-test .left))))
 
@@ -81,7 +78,6 @@ low-fault-spec =
     μ-loop
     mul-order
     element-copy-out-order
-    cut-mod-requires
     loop-holds
     coefficient-requires
     returns

@@ -10,10 +10,10 @@ use Rattle.product.proofs.fault.order_column.Statement.{statement}
 use Rattle.product.proofs.fault.order_column.Tie as tie
 
 abbrev Inv-loop : tie.InvT-loop
-Inv-loop head f lengths entries c i n j₀ j = (j ≤ n) × Fails j (flat-order-fault head f entries c i)
+Inv-loop head modulus f lengths entries c i n j₀ j = (j ≤ n) × Fails j (flat-order-fault head f entries c i)
 
 abbrev μ-loop : tie.MeasureT-loop
-μ-loop head f lengths entries c i n j₀ j = n - j
+μ-loop head modulus f lengths entries c i n j₀ j = n - j
 
 loop-holds : tie.Need-loop-holds Inv-loop μ-loop
 loop-holds c = (search needs, below-none _)
