@@ -1,4 +1,3 @@
 pub mod Applies
 pub mod Steps
 pub mod Findings
-pub mod Unique

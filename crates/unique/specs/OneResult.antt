@@ -3,11 +3,13 @@
 -- `Reads` say of its `requires` and `ensures`.
 --   OneResultBy same         the results are the same in the sense of `same`
 --   OneResult                they are equal
+--   SameReference            two references that are handed back: they point at one place, and the same stands there
 use mathlib.Core.Path.{_≡_}
 use mathlib.Core.List.{List}
 use Prim.Native.Nat.{ℕ}
 use borrow.Fn.Kinds.{PK, RK, In, Out, Dens, resT, endedOf}
 use contract.Lifetimes.{Lfts}
+use denote.Ref.{RefT, ptr, now}
 use denote.Triple.Clauses.{Lasts, atExit}
 
 module _ {n : ℕ} (ps : List (PK n)) (r : RK n) (asked : In n ps) (learnt : Out n ps r) where
@@ -21,3 +23,7 @@ module _ {n : ℕ} (ps : List (PK n)) (r : RK n) (asked : In n ps) (learnt : Out
 
   abbrev pub OneResult : Type 0
   OneResult = OneResultBy (λ κs z z′. z ≡ z′)
+
+-- What a program can see of a reference. The logic's own name for the loan stays free.
+abbrev pub SameReference : {X : Type 0} → RefT X → RefT X → Type 0
+SameReference r r′ = (ptr r ≡ ptr r′) × (now r ≡ now r′)

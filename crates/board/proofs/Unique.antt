@@ -1,0 +1,13 @@
+-- Each public function's contract leaves one result and, of the lent buffer, every byte at the end.
+use mathlib.Core.Path.{refl, sym, _∙_}
+use Rattle.unique.specs.OneResult.{OneResult}
+use Rattle.board.proofs.judge.Kinds as judge-kinds
+use Rattle.board.proofs.judge.Reads as judge
+use Rattle.board.proofs.make_evidence.Kinds as make-evidence-kinds
+use Rattle.board.proofs.make_evidence.Reads as make-evidence
+
+pub judge-unique : OneResult judge-kinds.ps judge-kinds.r judge.Asked judge.Learnt
+judge-unique κs a z z′ w w′ asked h h′ = (h ∙ sym h′, refl)
+
+pub make-evidence-unique : OneResult make-evidence-kinds.ps make-evidence-kinds.r make-evidence.Asked make-evidence.Learnt
+make-evidence-unique κs a z z′ w w′ asked h h′ = (h .0 ∙ sym (h′ .0), λ i. (tt, (tt, ((h .1 ∙ sym (h′ .1)) i, tt))))
