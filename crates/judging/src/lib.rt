@@ -3,8 +3,10 @@ ghost use mathlib.Core.Path.{_≡_};
 ghost use Rattle.rules.specs.Verdict.{verdict};
 ghost use Rattle.verdict.specs.Meant.{meant};
 use conditions::conditions;
-use reader::read_answer;
-use reader::read_problem;
+use layout::no_columns;
+use layout::no_entries;
+use reader::read_answer_into;
+use reader::read_problem_into;
 use verdict::Verdict;
 
 // problem, answer: the two files.
@@ -12,20 +14,18 @@ use verdict::Verdict;
 pub fn judge_files(problem: &[u8], answer: &[u8]) -> Verdict
     ensures { λ r. ⌜ meant r ≡ verdict (now (problem .entry)) (now (answer .entry)) ⌝ }
 {
-    let b = read_problem(problem);
+    let mut f = no_columns();
+    let b = read_problem_into(problem, &mut f);
     if !b.ok {
-        return Verdict::Unread(b.refusal);
+        let refusal = b.refusal;
+        return Verdict::Unread(refusal);
     }
-    let head = b.problem.head;
-    let a = read_answer(answer, head, true);
+    let head = b.head;
+    let mut entries = no_entries();
+    let a = read_answer_into(answer, head, true, &mut entries);
     if !a.ok {
-        return Verdict::Unread(a.refusal);
+        let refusal = a.refusal;
+        return Verdict::Unread(refusal);
     }
-    conditions(
-        head,
-        &b.problem.f,
-        &a.answer.basis.lengths,
-        &a.answer.basis.entries,
-        &a.answer.c,
-    )
+    conditions(head, &f, &a.lengths, &entries, &a.c)
 }

@@ -1,5 +1,6 @@
 -- How the matrices of a claim lie in flat arrays of numbers, and what such an array stands for. Everything past what was read is 0.
 --   square, width, entry-coefficients, column-coefficients      how many numbers the arrays have room for
+--   filled                         an array of one value
 --   square-place, entry-place, column-place      where the number of an entry, a coefficient of P, of F stands
 --   length-at, shift-at            the length of an entry of P, the shift of a column
 --   cell entries i j k             the coefficient at power k of the entry of P in row i and column j that the array holds
@@ -14,7 +15,7 @@ use Prim.Native.Nat.{ℕ, _+_, _*_, _≤_, _<_}
 use borrow.Author.Tests.{lt-ltb, le-ltb}
 use lib.Dec.{ltb}
 use lib.IntN.{ℤ, pos}
-use lib.ListN.{getD}
+use lib.ListN.{getD, replicate}
 use Rattle.algebra.specs.Residue.{K, red}
 use Rattle.algebra.specs.Series.{Series}
 use Rattle.algebra.specs.Matrix.{Matrix}
@@ -35,6 +36,10 @@ entry-coefficients = square * most-length
 -- … and those of F.
 abbrev pub column-coefficients : ℕ
 column-coefficients = square * most-order
+
+-- n times the same.
+unfoldable pub filled : {A : Type 0} → ℕ → A → List A
+filled n a = replicate n a
 
 -- The place of row i and column j in a flat array with one number for each entry.
 unfoldable pub square-place : ℕ → ℕ → ℕ

@@ -1,8 +1,8 @@
-// The sizes of document 01 as the code has them, each named once, and where a coefficient stands in a flat array.
+// The sizes of document 01 as the code has them, each named once, where a coefficient stands in a flat array, and such arrays of zeros.
 ghost use mathlib.Core.Path.{_≡_};
 ghost use Prim.Native.Nat.{_<_};
 ghost use Rattle.rules.specs.Sizes.{most-rows, most-order, most-length};
-ghost use Rattle.layout.specs.Flat.{square-place, entry-place, column-place};
+ghost use Rattle.layout.specs.Flat.{filled, entry-coefficients, column-coefficients, square-place, entry-place, column-place};
 
 // Rows and columns, the order of a column, the coefficients of an entry: at most so many.
 pub const ROWS: usize = 4;
@@ -30,6 +30,20 @@ pub const COLUMN_COEFFICIENTS: usize = SQUARE * ORDER;
 
 // The bytes of the longest `CE` record: its mark, and four for each number.
 pub const RECORD: usize = 2 + 4 * SQUARE;
+
+// Coefficients of F, all 0.
+pub fn no_columns() -> [u32; COLUMN_COEFFICIENTS]
+    ensures { λ r. ⌜ r ≡ filled column-coefficients 0 ⌝ }
+{
+    [0; COLUMN_COEFFICIENTS]
+}
+
+// Coefficients of P, all 0.
+pub fn no_entries() -> [u32; ENTRY_COEFFICIENTS]
+    ensures { λ r. ⌜ r ≡ filled entry-coefficients 0 ⌝ }
+{
+    [0; ENTRY_COEFFICIENTS]
+}
 
 // Where the number of row i and column j stands in an array with one number for each entry.
 pub fn square_place(i: usize, j: usize) -> usize

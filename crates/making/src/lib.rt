@@ -4,8 +4,10 @@ ghost use Rattle.rules.specs.Evidence.{make-evidence};
 ghost use Rattle.verdict.specs.Replies.{reply-meant};
 use evidence::put_evidence;
 use layout::RECORD;
-use reader::read_answer;
-use reader::read_problem;
+use layout::no_columns;
+use layout::no_entries;
+use reader::read_answer_into;
+use reader::read_problem_into;
 use verdict::Reply;
 use writer::put_text;
 
@@ -15,23 +17,21 @@ pub fn evidence_files(problem: &[u8], answer: &[u8], buffer: &mut [u8]) -> Reply
     ensures { λ r. ⌜ reply-meant r ≡ make-evidence (now (problem .entry)) (now (answer .entry)) (now (buffer .entry)) .answer ⌝ }
     ensures { λ r. ⌜ now (buffer .exit) ≡ make-evidence (now (problem .entry)) (now (answer .entry)) (now (buffer .entry)) .buffer ⌝ }
 {
-    let b = read_problem(problem);
+    let mut f = no_columns();
+    let b = read_problem_into(problem, &mut f);
     if !b.ok {
-        return Reply::Unread(b.refusal);
+        let refusal = b.refusal;
+        return Reply::Unread(refusal);
     }
-    let head = b.problem.head;
-    let a = read_answer(answer, head, false);
+    let head = b.head;
+    let mut entries = no_entries();
+    let a = read_answer_into(answer, head, false, &mut entries);
     if !a.ok {
-        return Reply::Unread(a.refusal);
+        let refusal = a.refusal;
+        return Reply::Unread(refusal);
     }
     let mut record = [0u8; RECORD];
-    let needed = put_evidence(
-        &mut record,
-        head,
-        &b.problem.f,
-        &a.answer.basis.lengths,
-        &a.answer.basis.entries,
-    );
+    let needed = put_evidence(&mut record, head, &f, &a.lengths, &entries);
     let count = if buffer.len() < needed { 0 } else { needed };
     put_text(buffer, 0, &record[..count]);
     let at = needed as u32;

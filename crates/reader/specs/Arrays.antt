@@ -13,10 +13,10 @@ use lib.ListN.{length, getD, set, replicate, length-set, List·getD-eq-default, 
 use lib.Seq.{getD-set-same, getD-set-other}
 use Rattle.rules.specs.Sizes.{most-rows, most-order, most-length}
 use Rattle.rules.specs.Matrices.{at}
-use Rattle.layout.specs.Flat.{square, entry-coefficients, column-coefficients, column-place, entry-place, square-place}
+use Rattle.layout.specs.Flat.{filled, square, entry-coefficients, column-coefficients, column-place, entry-place, square-place}
 use Rattle.reader.specs.Storing.{pour}
 use Rattle.reader.specs.Poured.{All, Blocks, poured-length, poured-below, poured-above, poured-at, pour-both, pour-same, Every, every-set, every-pour}
-use Rattle.reader.specs.Flat.{filled, put-from, run-into, put-row, block-into, row-fits, list-into, shifts-into, put-column, columns-into, row-into, entries-into, evidence-into}
+use Rattle.reader.specs.Flat.{put-from, run-into, put-row, block-into, row-fits, list-into, shifts-into, put-column, columns-into, row-into, entries-into, evidence-into}
 
 -- A property that everything has.
 abbrev Any : {A : Type 0} → A → Type 0

@@ -1,5 +1,4 @@
 -- Where the values stand in the flat arrays: how each is put into what is there.
---   filled                   an array of one value
 --   list-into, shifts-into   one value after the other, from the front
 --   put-from, run-into       numbers one after the other from a place on, …
 --   put-row, block-into      … and rows of them, each a stride after the one before
@@ -14,15 +13,11 @@ use Prim.Native.Nat.{ℕ, _+_, _*_, _≤_, _<_}
 use native.Mathlib.Nat.{suc-mul, mul-le-mul-right}
 use native.Mathlib.Numerals.{add-one}
 use native.Mathlib.Omega.{arith}
-use lib.ListN.{set, length, replicate}
+use lib.ListN.{set, length}
 use lib.IntN.{ℤ}
 use Rattle.rules.specs.Sizes.{most-rows, most-order}
 use Rattle.layout.specs.Flat.{square-place, entry-place, column-place}
 use Rattle.reader.specs.Storing.{pour}
-
--- n times the same.
-unfoldable pub filled : {A : Type 0} → ℕ → A → List A
-filled n a = replicate n a
 
 abbrev pub put-from : ℕ → List ℕ → ℕ → ℕ → List ℕ
 put-from base st k v = set st (base + k) v

@@ -9,4 +9,3 @@ pub mod Poured
 pub mod Arrays
 pub mod Stands
 pub mod Readings
-pub mod Unique

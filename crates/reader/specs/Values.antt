@@ -3,10 +3,11 @@
 --   problem-value            a problem that was read or refused, as the code's `ReadProblem`
 --   refusal-value, no-refusal        a refusal's numbers, and none
 --   begun-off, begun-on, with-arrays         a problem without its arrays, and with them
+--   with-columns             a problem without the coefficients of F, and with them
 --   read-answer                the answer to a problem with p, m and n, with its `CE` record or without: only, without-evidence
 --   lengths-value, entries-value, constants-value      an answer that was read, in arrays
 --   answer-value             an answer that was read or refused, as the code's `ReadAnswer`
---   with-entries, beside     an answer without its arrays, or without P's coefficients, and with them
+--   with-entries, with-coefficients          an answer without its arrays, or without P's coefficients, and with them
 --   body-reader, problem-from, head-refused, head-given        a problem is its `PR` record and what follows
 --   answer-parts, answer-from, answer-given, answer-parts-refused        an answer is its parts
 --   read-answer-refused        a refusal's offsets fit 32 bits
@@ -22,15 +23,16 @@ use Rattle.rules.specs.Reader.{Place, Refusal, Result, refused, got, Reader, ne
 use Rattle.rules.specs.Files.{PR, OR, SH, FC, CE, entries-reader, problem-reader, answer-reader, basis-reader, read-problem}
 use Rattle.laws.specs.ReaderLaws.{next-cong}
 use Rattle.verdict.specs.declared.Refusal.{Refusal as Refused}
-use Rattle.layout.specs.Flat.{square, entry-coefficients, column-coefficients}
+use Rattle.layout.specs.Flat.{filled, square, entry-coefficients, column-coefficients}
 use Rattle.claim.specs.declared.Head.{Head}
 use Rattle.claim.specs.declared.Answer.{Answer as AnswerArrays}
 use Rattle.reader.specs.declared.ReadProblem.{ReadProblem}
 use Rattle.reader.specs.declared.ReadAnswer.{ReadAnswer}
 use Rattle.reader.specs.declared.Begun.{Begun}
 use Rattle.reader.specs.declared.Ended.{Ended}
-use Rattle.reader.specs.declared.Beside.{Beside}
-use Rattle.reader.specs.Flat.{filled, list-into, shifts-into, columns-into, entries-into, evidence-into}
+use Rattle.reader.specs.declared.ProblemOutline.{ProblemOutline}
+use Rattle.reader.specs.declared.AnswerOutline.{AnswerOutline}
+use Rattle.reader.specs.Flat.{list-into, shifts-into, columns-into, entries-into, evidence-into}
 use Rattle.reader.specs.Records.{then-refused, then-given}
 use Rattle.reader.specs.Storing.{into, into-end, into-refused}
 use Rattle.reader.specs.Extent.{Narrow, answer-refused, basis-refused}
@@ -90,6 +92,10 @@ abbrev pub with-arrays : Begun → List ℕ → List ℤ → List ℕ → ReadPr
 with-arrays b orders shifts f =
     record { ok = b .ok; refusal = b .refusal; problem = record { head = head-with (b .p) (b .m) (b .n) orders shifts; f = f } }
 
+-- A problem without the coefficients of F, and with them.
+abbrev pub with-columns : ProblemOutline → List ℕ → ReadProblem
+with-columns b f = record { ok = b .ok; refusal = b .refusal; problem = record { head = b .head; f = f } }
+
 -- Of a problem the answer's readers use p, m and n alone.
 abbrev pub only : (p m n : ℕ) → Problem
 only p m n = record { p = p; m = m; n = n; orders = []; shifts = []; F = [] }
@@ -127,8 +133,8 @@ answer-value (got a q) =
 abbrev pub with-entries : Ended → (lengths entries c : List ℕ) → ReadAnswer
 with-entries a lengths entries c = record { ok = a .ok; refusal = a .refusal; answer = answer-with lengths entries c }
 
-abbrev pub beside : Beside → List ℕ → ReadAnswer
-beside a entries = record { ok = a .ok; refusal = a .refusal; answer = answer-with (a .lengths) entries (a .c) }
+abbrev pub with-coefficients : AnswerOutline → List ℕ → ReadAnswer
+with-coefficients a entries = record { ok = a .ok; refusal = a .refusal; answer = answer-with (a .lengths) entries (a .c) }
 
 into-next : {A B C : Type 0} (g : B → C) (m : Result A) (f : A → Place → Result B) → into g (next m f) ≡ next m (λ a q. into g (f a q))
 unfolding into next

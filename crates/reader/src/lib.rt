@@ -1,14 +1,13 @@
-// The two files of document 01, read front to back in one pass into structs by value.
+// The two files of document 01, read front to back in one pass.
 ghost use mathlib.Core.Path.{_≡_};
 ghost use Prim.Native.Nat.{_≤_};
 ghost use lib.IntN.{pos};
 ghost use Rattle.rules.specs.Sizes.{most-rows};
 ghost use Rattle.rules.specs.Files.{read-problem};
 ghost use Rattle.place.specs.Places.{refusal, place};
-ghost use Rattle.layout.specs.Flat.{square, entry-coefficients, column-coefficients};
-ghost use Rattle.reader.specs.Flat.{filled};
+ghost use Rattle.layout.specs.Flat.{filled, square, entry-coefficients, column-coefficients};
 ghost use Rattle.reader.specs.Extent.{Narrow};
-ghost use Rattle.reader.specs.Values.{refusal-value, no-refusal, problem-value, answer-value, read-answer, with-arrays, with-entries, answer-with, beside, begun-off, begun-on};
+ghost use Rattle.reader.specs.Values.{refusal-value, no-refusal, problem-value, answer-value, read-answer, with-arrays, with-columns, with-entries, with-coefficients, begun-off, begun-on};
 
 mod answer_file;
 mod problem_file;
@@ -27,10 +26,28 @@ use layout::COLUMN_COEFFICIENTS;
 use layout::ENTRY_COEFFICIENTS;
 use layout::ROWS;
 use layout::SQUARE;
+use layout::no_columns;
+use layout::no_entries;
 use place::Going;
 use place::Stop;
 use place::front;
 use verdict::Refusal;
+
+// The reading of a problem but for the coefficients of F: where `ok`, its numbers; else the refusal. Every other number is 0.
+pub struct ProblemOutline {
+    pub ok: bool,
+    pub refusal: Refusal,
+    pub head: Head,
+}
+
+// The reading of an answer but for the coefficients of P: where `ok`, the lengths of P's entries and C; else the refusal. Every other number
+// is 0.
+pub struct AnswerOutline {
+    pub ok: bool,
+    pub refusal: Refusal,
+    pub lengths: [usize; SQUARE],
+    pub c: [u32; SQUARE],
+}
 
 // The reading of a problem: where `ok`, the problem; else the refusal. Every other number is 0.
 pub struct ReadProblem {
@@ -61,14 +78,6 @@ struct Ended {
     refusal: Refusal,
 }
 
-// An answer without the coefficients of P.
-struct Beside {
-    ok: bool,
-    refusal: Refusal,
-    lengths: [usize; SQUARE],
-    c: [u32; SQUARE],
-}
-
 // Orders, all 0.
 fn no_orders() -> [usize; ROWS]
     ensures { λ r. ⌜ r ≡ filled most-rows 0 ⌝ }
@@ -83,13 +92,6 @@ fn no_shifts() -> [i32; ROWS]
     [0; ROWS]
 }
 
-// Coefficients of F, all 0.
-fn no_coefficients() -> [u32; COLUMN_COEFFICIENTS]
-    ensures { λ r. ⌜ r ≡ filled column-coefficients 0 ⌝ }
-{
-    [0; COLUMN_COEFFICIENTS]
-}
-
 // Lengths of entries, all 0.
 fn no_lengths() -> [usize; SQUARE]
     ensures { λ r. ⌜ r ≡ filled square 0 ⌝ }
@@ -97,29 +99,11 @@ fn no_lengths() -> [usize; SQUARE]
     [0; SQUARE]
 }
 
-// Coefficients of P, all 0.
-fn no_entries() -> [u32; ENTRY_COEFFICIENTS]
-    ensures { λ r. ⌜ r ≡ filled entry-coefficients 0 ⌝ }
-{
-    [0; ENTRY_COEFFICIENTS]
-}
-
 // Numbers of C, all 0.
 fn no_evidence() -> [u32; SQUARE]
     ensures { λ r. ⌜ r ≡ filled square 0 ⌝ }
 {
     [0; SQUARE]
-}
-
-// An answer, all 0.
-fn no_answer() -> Answer
-    ensures { λ r. ⌜ r ≡ answer-with (filled square 0) (filled entry-coefficients 0) (filled square 0) ⌝ }
-{
-    let lengths = no_lengths();
-    let entries = no_entries();
-    let c = no_evidence();
-    let basis = Basis { lengths, entries };
-    Answer { basis, c }
 }
 
 // x: a refusal, whose offsets fit 32 bits.
@@ -183,7 +167,7 @@ fn on(h: Sizes) -> Begun
 }
 
 // s: the problem file, of any bytes. orders, shifts and f: all 0; where the orders, the shifts and the coefficients of F go. They are all 0
-// again where the problem is refused: with one struct made at the end, whatever was found, the arrays are copied once.
+// again where the problem is refused.
 // The rest of the problem.
 fn problem_into(
     s: &[u8],
@@ -200,7 +184,7 @@ fn problem_into(
             Going::Off(x) => {
                 *orders = no_orders();
                 *shifts = no_shifts();
-                *f = no_coefficients();
+                *f = no_columns();
                 off(x)
             }
             Going::On(_) => on(h),
@@ -208,15 +192,15 @@ fn problem_into(
     }
 }
 
-// s: the problem file, of any bytes.
-// The problem, or the refusal.
-pub fn read_problem(s: &[u8]) -> ReadProblem
-    ensures { λ r. ⌜ r ≡ problem-value (read-problem (now (s .entry))) ⌝ }
+// s: the problem file, of any bytes. f: all 0; where the coefficients of F go. They are all 0 again where the problem is refused.
+// The rest of the problem, or the refusal. The many numbers are read where they lie: a struct of arrays that is handed back is copied.
+pub fn read_problem_into(s: &[u8], f: &mut [u32; COLUMN_COEFFICIENTS]) -> ProblemOutline
+    requires { ⌜ now f ≡ filled column-coefficients 0 ⌝ }
+    ensures { λ r. ⌜ with-columns r (now (f .exit)) ≡ problem-value (read-problem (now (s .entry))) ⌝ }
 {
     let mut orders = no_orders();
     let mut shifts = no_shifts();
-    let mut f = no_coefficients();
-    let b = problem_into(s, &mut orders, &mut shifts, &mut f);
+    let b = problem_into(s, &mut orders, &mut shifts, f);
     let refusal = b.refusal;
     let head = Head {
         p: b.p,
@@ -225,6 +209,22 @@ pub fn read_problem(s: &[u8]) -> ReadProblem
         orders,
         shifts,
     };
+    ProblemOutline {
+        ok: b.ok,
+        refusal,
+        head,
+    }
+}
+
+// s: the problem file, of any bytes.
+// The problem, or the refusal.
+pub fn read_problem(s: &[u8]) -> ReadProblem
+    ensures { λ r. ⌜ r ≡ problem-value (read-problem (now (s .entry))) ⌝ }
+{
+    let mut f = no_columns();
+    let b = read_problem_into(s, &mut f);
+    let refusal = b.refusal;
+    let head = b.head;
     let problem = Problem { head, f };
     ReadProblem {
         ok: b.ok,
@@ -275,24 +275,24 @@ fn answer_into(
     }
 }
 
-// t: the answer file, of any bytes. head: the problem's. with_evidence: whether the `CE` record is due. entries: all 0; where the entries'
-// coefficients go. They are all 0 again where the answer is refused.
-// The rest of the answer.
-fn answer_beside(
+// t: the answer file, of any bytes. head: the problem's. with_evidence: whether the `CE` record is due; without it the file ends after the
+// last entry. entries: all 0; where the entries' coefficients go. They are all 0 again where the answer is refused.
+// The rest of the answer, with C all 0 where it was not due, or the refusal.
+pub fn read_answer_into(
     t: &[u8],
     head: Head,
     with_evidence: bool,
     entries: &mut [u32; ENTRY_COEFFICIENTS],
-) -> Beside
+) -> AnswerOutline
     requires { ⌜ (head .m ≤ most-rows) × (head .n ≤ most-rows) ⌝ }
     requires { ⌜ now entries ≡ filled entry-coefficients 0 ⌝ }
-    ensures { λ r. ⌜ beside r (now (entries .exit)) ≡ answer-value (read-answer (head .p) (head .m) (head .n) «with_evidence» (now (t .entry))) ⌝ }
+    ensures { λ r. ⌜ with-coefficients r (now (entries .exit)) ≡ answer-value (read-answer (head .p) (head .m) (head .n) «with_evidence» (now (t .entry))) ⌝ }
 {
     let mut lengths = no_lengths();
     let mut c = no_evidence();
     let a = answer_into(t, head, with_evidence, &mut lengths, entries, &mut c);
     let refusal = a.refusal;
-    Beside {
+    AnswerOutline {
         ok: a.ok,
         refusal,
         lengths,
@@ -300,27 +300,19 @@ fn answer_beside(
     }
 }
 
-// Puts the lengths in their place.
-fn put_lengths(out: &mut [usize; SQUARE], lengths: [usize; SQUARE])
-    ensures { λ r. ⌜ now (out .exit) ≡ lengths ⌝ }
-{
-    *out = lengths;
-}
-
 // t: the answer file, of any bytes. head: the problem's. with_evidence: whether the `CE` record is due; without it the file ends after the last entry.
-// The answer, with C all 0 where it was not due, or the refusal. The coefficients are read where they lie in the answer: a struct of arrays
-// that is made of another one is copied once more.
+// The answer, with C all 0 where it was not due, or the refusal.
 pub fn read_answer(t: &[u8], head: Head, with_evidence: bool) -> ReadAnswer
     requires { ⌜ (head .m ≤ most-rows) × (head .n ≤ most-rows) ⌝ }
     ensures { λ r. ⌜ r ≡ answer-value (read-answer (head .p) (head .m) (head .n) «with_evidence» (now (t .entry))) ⌝ }
 {
-    let mut answer = no_answer();
-    let a = answer_beside(t, head, with_evidence, &mut answer.basis.entries);
-    let lengths = a.lengths;
-    put_lengths(&mut answer.basis.lengths, lengths);
-    let c = a.c;
-    answer.c = c;
+    let mut entries = no_entries();
+    let a = read_answer_into(t, head, with_evidence, &mut entries);
     let refusal = a.refusal;
+    let lengths = a.lengths;
+    let basis = Basis { lengths, entries };
+    let c = a.c;
+    let answer = Answer { basis, c };
     ReadAnswer {
         ok: a.ok,
         refusal,

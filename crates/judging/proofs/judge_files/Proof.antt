@@ -1,60 +1,79 @@
 use borrow.Author.Needs.{needs}
 use borrow.Author.Tests.{not-true, not-false}
-use mathlib.Core.Path.{_∙_}
+use mathlib.Core.Bool.{true}
+use mathlib.Core.Path.{_≡_, _∙_}
 use denote.Ref.{now}
 use Rattle.judging.specs.Steps.{off-verdict, answer-off-verdict, both-sound, both-verdict}
 use Rattle.reader.specs.Readings.{problem-head}
 use Rattle.judging.proofs.judge_files.Statement.{statement}
 use Rattle.judging.proofs.judge_files.Tie as tie
 
-read-problem-requires : tie.Need-read-problem-requires
-read-problem-requires c κs = search needs
+no-columns-requires : tie.Need-no-columns-requires
+no-columns-requires c κs = search needs
+
+read-problem-into-requires : tie.Need-read-problem-into-requires
+read-problem-into-requires c κs = search needs
 
 returns : tie.Need-returns
 returns c =
-    let a = c .before .before .before .before .before .args in
-    let x = c .before .before .read-problem in
+    let k = c .before .before .before in
+    let x = k .read-problem-into in
+    let a = k .before .before .before .before .before .args in
     off-verdict (now (a .problem)) (now (a .answer)) (x .ensures) (not-true (x .result .ok) (c .before .if1 .taken))
 
-read-answer-requires : tie.Need-read-answer-requires
-read-answer-requires c κs =
-    let x = c .before .before .read-problem in
-    let a = c .before .before .before .before .before .args in
-    let sound = problem-head (now (a .problem)) (x .ensures) (not-false (x .result .ok) (c .before .if1 .left)) in
-    (sound .rows-most, sound .columns-most)
+-- Past the first branch the problem was read, past the second the answer.
+problem-on : (c : tie.Else1) → c .before .before .read-problem-into .result .ok ≡ true
+problem-on c = not-false (c .before .before .read-problem-into .result .ok) (c .if1 .left)
+
+answer-on : (c : tie.Else2) → c .before .read-answer-into .result .ok ≡ true
+answer-on c = not-false (c .before .read-answer-into .result .ok) (c .if2 .left)
+
+no-entries-requires : tie.Need-no-entries-requires
+no-entries-requires c κs = search needs
+
+read-answer-into-requires : tie.Need-read-answer-into-requires
+read-answer-into-requires c κs =
+    let d = c .before .before .before in
+    let k = d .before .before in
+    let a = k .before .before .before .before .before .args in
+    let sound = problem-head (now (a .problem)) (k .read-problem-into .ensures) (problem-on d) in
+    ((sound .rows-most, sound .columns-most), c .before .no-entries .ensures)
 
 returns-2 : tie.Need-returns-2
 returns-2 c =
-    let a = c .before .before .before .before .before .before .before .before .args in
-    let x = c .before .before .before .before .before .read-problem in
-    let y = c .before .before .read-answer in
-    answer-off-verdict (now (a .problem)) (now (a .answer)) (x .ensures) (not-false (x .result .ok) (c .before .before .before .before .if1 .left)) (y .ensures)
+    let y = c .before .before .read-answer-into in
+    let d = c .before .before .before .before .before .before in
+    let k = d .before .before in
+    let a = k .before .before .before .before .before .args in
+    answer-off-verdict (now (a .problem)) (now (a .answer)) (k .read-problem-into .ensures) (problem-on d) (y .ensures)
     (not-true (y .result .ok) (c .before .if2 .taken))
 
 conditions-requires : tie.Need-conditions-requires
 conditions-requires c κs =
-    let a = c .before .before .before .before .before .before .before .before .before .before .before .before .before .args in
-    let x = c .before .before .before .before .before .before .before .before .before .before .read-problem in
-    let y = c .before .before .before .before .before .before .before .read-answer in
-    both-sound (now (a .problem)) (now (a .answer)) (x .ensures) (not-false (x .result .ok) (c .before .before .before .before .before .before .before .before .before .if1 .left)) (y .ensures)
-    (not-false (y .result .ok) (c .before .before .before .before .before .before .if2 .left))
+    let e = c .before .before .before .before .before in
+    let d = e .before .before .before .before .before in
+    let k = d .before .before in
+    let a = k .before .before .before .before .before .args in
+    both-sound (now (a .problem)) (now (a .answer)) (k .read-problem-into .ensures) (problem-on d) (e .before .read-answer-into .ensures) (answer-on e)
 
 returns-3 : tie.Need-returns-3
 returns-3 c =
-    let a = c .before .before .before .before .before .before .before .before .before .before .before .before .before .before .args in
-    let x = c .before .before .before .before .before .before .before .before .before .before .before .read-problem in
-    let y = c .before .before .before .before .before .before .before .before .read-answer in
+    let e = c .before .before .before .before .before .before in
+    let d = e .before .before .before .before .before in
+    let k = d .before .before in
+    let a = k .before .before .before .before .before .args in
     c .conditions .ensures
-    ∙ both-verdict (now (a .problem)) (now (a .answer)) (x .ensures) (not-false (x .result .ok) (c .before .before .before .before .before .before .before .before .before .before .if1 .left)) (y .ensures)
-    (not-false (y .result .ok) (c .before .before .before .before .before .before .before .if2 .left))
+    ∙ both-verdict (now (a .problem)) (now (a .answer)) (k .read-problem-into .ensures) (problem-on d) (e .before .read-answer-into .ensures) (answer-on e)
 
 pub judge-files-spec : {M : Type 1} → statement M
 judge-files-spec =
     tie.close
     (tie.spec
-    read-problem-requires
+    no-columns-requires
+    read-problem-into-requires
     returns
-    read-answer-requires
+    no-entries-requires
+    read-answer-into-requires
     returns-2
     conditions-requires
     returns-3)

@@ -17,38 +17,47 @@ use Rattle.making.specs.Steps.{evidence-off, evidence-answer-off, both-b
 use Rattle.making.proofs.evidence_files.Statement.{statement}
 use Rattle.making.proofs.evidence_files.Tie as tie
 
-read-problem-requires : tie.Need-read-problem-requires
-read-problem-requires c κs = search needs
+no-columns-requires : tie.Need-no-columns-requires
+no-columns-requires c κs = search needs
+
+read-problem-into-requires : tie.Need-read-problem-into-requires
+read-problem-into-requires c κs = search needs
 
 returns : tie.Need-returns
 returns c =
-    let a = c .before .before .before .before .before .before .args in
-    let b = c .before .before .read-problem in
-    let e = evidence-off (now (a .problem)) (now (a .answer)) (now (a .buffer)) (b .ensures) (not-true (b .result .ok) (c .before .if1 .taken)) in
+    let k = c .before .before .before in
+    let x = k .read-problem-into in
+    let a = k .before .before .before .before .before .before .args in
+    let e = evidence-off (now (a .problem)) (now (a .answer)) (now (a .buffer)) (x .ensures) (not-true (x .result .ok) (c .before .if1 .taken)) in
     (sym (ap (λ (x : Made). x .answer) e), sym (ap (λ (x : Made). x .buffer) e))
 
-read-answer-requires : tie.Need-read-answer-requires
-read-answer-requires c κs =
-    let x = c .before .before .read-problem in
-    let a = c .before .before .before .before .before .before .args in
-    let sound = problem-head (now (a .problem)) (x .ensures) (not-false (x .result .ok) (c .before .if1 .left)) in
-    (sound .rows-most, sound .columns-most)
+-- Past the first branch the problem was read, past the second the answer.
+problem-on : (c : tie.Else1) → c .before .before .read-problem-into .result .ok ≡ true
+problem-on c = not-false (c .before .before .read-problem-into .result .ok) (c .if1 .left)
+
+answer-on : (c : tie.Else2) → c .before .read-answer-into .result .ok ≡ true
+answer-on c = not-false (c .before .read-answer-into .result .ok) (c .if2 .left)
+
+no-entries-requires : tie.Need-no-entries-requires
+no-entries-requires c κs = search needs
+
+read-answer-into-requires : tie.Need-read-answer-into-requires
+read-answer-into-requires c κs =
+    let d = c .before .before .before in
+    let k = d .before .before in
+    let a = k .before .before .before .before .before .before .args in
+    let sound = problem-head (now (a .problem)) (k .read-problem-into .ensures) (problem-on d) in
+    ((sound .rows-most, sound .columns-most), c .before .no-entries .ensures)
 
 returns-2 : tie.Need-returns-2
 returns-2 c =
-    let a = c .before .before .before .before .before .before .before .before .before .args in
-    let x = c .before .before .before .before .before .read-problem in
-    let y = c .before .before .read-answer in
-    let e = evidence-answer-off (now (a .problem)) (now (a .answer)) (now (a .buffer)) (x .ensures) (not-false (x .result .ok) (c .before .before .before .before .if1 .left)) (y .ensures)
+    let y = c .before .before .read-answer-into in
+    let d = c .before .before .before .before .before .before in
+    let k = d .before .before in
+    let a = k .before .before .before .before .before .before .args in
+    let e = evidence-answer-off (now (a .problem)) (now (a .answer)) (now (a .buffer)) (k .read-problem-into .ensures) (problem-on d) (y .ensures)
     (not-true (y .result .ok) (c .before .if2 .taken)) in
     (sym (ap (λ (x : Made). x .answer) e), sym (ap (λ (x : Made). x .buffer) e))
-
--- Where neither file is refused, both are read.
-problem-on : (c : tie.Else2) → c .before .before .before .before .read-problem .result .ok ≡ true
-problem-on c = not-false (c .before .before .before .before .read-problem .result .ok) (c .before .before .before .if1 .left)
-
-answer-on : (c : tie.Else2) → c .before .read-answer .result .ok ≡ true
-answer-on c = not-false (c .before .read-answer .result .ok) (c .if2 .left)
 
 slice-aggregate-put-evidence : tie.Need-slice-aggregate-put-evidence
 slice-aggregate-put-evidence c = search needs
@@ -56,16 +65,18 @@ slice-aggregate-put-evidence c = search needs
 put-evidence-requires : tie.Need-put-evidence-requires
 unfolding most-rows
 put-evidence-requires c κs =
-    let d = c .before .before .before .before .before .before in
-    let a = d .before .before .before .before .before .before .before .before .args in
-    let x = d .before .before .before .before .read-problem in
-    let y = d .before .read-answer in
-    let sound : SoundHead (x .result .problem .head) = problem-head (now (a .problem)) (x .ensures) (problem-on d) in (
+    let d = c .before .before .before .before .before in
+    let one = d .before .before .before .before .before in
+    let k = one .before .before in
+    let a = k .before .before .before .before .before .before .args in
+    let x = k .read-problem-into in
+    let y = d .before .read-answer-into in
+    let sound : SoundHead (x .result .head) = problem-head (now (a .problem)) (x .ensures) (problem-on one) in (
       (
         sound,
         (
-          problem-columns (now (a .problem)) (x .ensures) (problem-on d),
-          both-basis (now (a .problem)) (now (a .answer)) (now (a .buffer)) (x .ensures) (problem-on d) (y .ensures) (answer-on d),
+          problem-columns (now (a .problem)) (x .ensures) (problem-on one),
+          both-basis (now (a .problem)) (now (a .answer)) (now (a .buffer)) (x .ensures) (problem-on one) (y .ensures) (answer-on d),
         ),
       ),
       omega (arith, rectangle-most (sound .rows-most) (sound .columns-most)),
@@ -76,7 +87,10 @@ within : (c : tie.After-put-evidence) → c .put-evidence .result ≤ length (c 
 within c = appended-within _ (c .put-evidence .last .0) 0 (c .put-evidence .result) _ zero-le (c .put-evidence .ensures)
 
 -- What is put of it lies within the array, and within the buffer.
-fits : (c : tie.Joined3) → let start = c .before .before .before .before .before .before .before .before .before .before .before .before .before .before .before .before .before in
+fits : (c : tie.Joined3)
+    → let d = c .before .before .before .before .before .before .before .before in
+    let k = d .before .before .before .before .before .before .before in
+    let start = k .before .before .before .before .before .before in
     (c .if3 .count ≤ length (c .before .before .put-evidence .last .0)) × (c .if3 .count ≤ length (now (start .args .buffer)))
 fits c =
     let made = within (c .before .before) in
@@ -99,15 +113,18 @@ same-length c = search needs
 
 returns-3 : tie.Need-returns-3
 returns-3 c =
-    let put = c .before .before .before .before .before .before .before .before .put-evidence in
+    let k₈ = c .before .before .before .before .before .before .before .before in
+    let put = k₈ .put-evidence in
     let front = c .before .before .before .put-text in
-    let d = c .before .before .before .before .before .before .before .before .before .before .before .before .before .before .before in
-    let a = d .before .before .before .before .before .before .before .before .args in
-    let x = d .before .before .before .before .read-problem in
-    let y = d .before .read-answer in
+    let d = k₈ .before .before .before .before .before .before in
+    let one = d .before .before .before .before .before in
+    let k = one .before .before in
+    let a = k .before .before .before .before .before .before .args in
+    let x = k .read-problem-into in
+    let y = d .before .read-answer-into in
     ⊎-elim
     (λ w.
-    let e = room-lacks (now (a .problem)) (now (a .answer)) (now (a .buffer)) (x .ensures) (problem-on d) (y .ensures) (answer-on d) _ (put .last .0) (put .result) (put .ensures) (front .last .0) (c .before .before .before .before .before .before .if3 .count) (front .result) (front .ensures)
+    let e = room-lacks (now (a .problem)) (now (a .answer)) (now (a .buffer)) (x .ensures) (problem-on one) (y .ensures) (answer-on d) _ (put .last .0) (put .result) (put .ensures) (front .last .0) (c .before .before .before .before .before .before .if3 .count) (front .result) (front .ensures)
     (omega arith) (omega arith) in
     (sym (ap (λ (x : Made). x .answer) e), sym (ap (λ (x : Made). x .buffer) e)))
     (λ w. absurd (omega arith))
@@ -118,16 +135,19 @@ same-length-2 c = search needs
 
 returns-4 : tie.Need-returns-4
 returns-4 c =
-    let put = c .before .before .before .before .before .before .before .before .put-evidence in
+    let k₈ = c .before .before .before .before .before .before .before .before in
+    let put = k₈ .put-evidence in
     let front = c .before .before .before .put-text in
-    let d = c .before .before .before .before .before .before .before .before .before .before .before .before .before .before .before in
-    let a = d .before .before .before .before .before .before .before .before .args in
-    let x = d .before .before .before .before .read-problem in
-    let y = d .before .read-answer in
+    let d = k₈ .before .before .before .before .before .before in
+    let one = d .before .before .before .before .before in
+    let k = one .before .before in
+    let a = k .before .before .before .before .before .before .args in
+    let x = k .read-problem-into in
+    let y = d .before .read-answer-into in
     ⊎-elim
     (λ w. absurd (omega arith))
     (λ w.
-    let e = evidence-put (now (a .problem)) (now (a .answer)) (now (a .buffer)) (x .ensures) (problem-on d) (y .ensures) (answer-on d) _ (put .last .0) (put .result) (put .ensures) (front .last .0) (c .before .before .before .before .before .before .if3 .count) (front .result) (front .ensures)
+    let e = evidence-put (now (a .problem)) (now (a .answer)) (now (a .buffer)) (x .ensures) (problem-on one) (y .ensures) (answer-on d) _ (put .last .0) (put .result) (put .ensures) (front .last .0) (c .before .before .before .before .before .before .if3 .count) (front .result) (front .ensures)
     (omega arith) (omega arith) in
     (sym (ap (λ (x : Made). x .answer) e), sym (ap (λ (x : Made). x .buffer) e)))
     (c .before .before .before .before .before .before .if3 .came)
@@ -136,9 +156,11 @@ pub evidence-files-spec : {M : Type 1} → statement M
 evidence-files-spec =
     tie.close
     (tie.spec
-    read-problem-requires
+    no-columns-requires
+    read-problem-into-requires
     returns
-    read-answer-requires
+    no-entries-requires
+    read-answer-into-requires
     returns-2
     slice-aggregate-put-evidence
     put-evidence-requires

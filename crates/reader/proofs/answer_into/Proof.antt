@@ -7,12 +7,12 @@ use lib.ListN.{length}
 use borrow.Author.Needs.{needs}
 use Rattle.rules.specs.Reader.{Place, refused, got, front}
 use Rattle.place.specs.Places.{place, refusal, going}
-use Rattle.layout.specs.Flat.{square, entry-coefficients}
+use Rattle.layout.specs.Flat.{filled, square, entry-coefficients}
 use Rattle.reader.specs.declared.ReadAnswer.{ReadAnswer}
 use Rattle.reader.specs.Values.{answer-parts, answer-value, read-answer, answer-from, answer-given, read-answer-refused, with-entries}
 use Rattle.reader.specs.Records.{refused-into}
 use Rattle.reader.specs.Arrays.{filled-length}
-use Rattle.reader.specs.Flat.{answer-into, filled}
+use Rattle.reader.specs.Flat.{answer-into}
 use Rattle.reader.specs.Storing.{into, into-got, into-refused, going-on, going-off}
 use Rattle.reader.proofs.answer_into.Statement.{statement}
 use Rattle.reader.proofs.answer_into.Tie as tie

@@ -1,7 +1,7 @@
 -- `reader::no_lengths` meets its contract. Assumes nothing.
 use mathlib.Core.Path.{refl}
 use Rattle.rules.specs.Sizes.{most-rows}
-use Rattle.reader.specs.Flat.{filled}
+use Rattle.layout.specs.Flat.{filled}
 use Rattle.reader.proofs.no_lengths.Statement.{statement}
 use Rattle.reader.proofs.no_lengths.Tie as tie
 

@@ -12,14 +12,14 @@ use Rattle.rules.specs.Files.{PR, read-problem}
 use Rattle.laws.specs.ReaderLaws.{Forward}
 use Rattle.laws.specs.Soundness.{InSize, sound-PR}
 use Rattle.place.specs.Places.{place, refusal}
-use Rattle.layout.specs.Flat.{column-coefficients}
+use Rattle.layout.specs.Flat.{filled, column-coefficients}
 use Rattle.reader.specs.declared.ReadProblem.{ReadProblem}
 use Rattle.reader.specs.Head.{headed}
 use Rattle.reader.specs.Values.{body-reader, problem-value, problem-from, head-refused, head-given, with-arrays}
 use Rattle.reader.specs.Records.{refused-into}
 use Rattle.reader.specs.Arrays.{filled-length}
 use Rattle.reader.specs.Extent.{problem-refused}
-use Rattle.reader.specs.Flat.{body-into, filled}
+use Rattle.reader.specs.Flat.{body-into}
 use Rattle.reader.specs.Storing.{into, into-got, into-refused, going-on, going-off}
 use Rattle.reader.proofs.problem_into.Statement.{statement}
 use Rattle.reader.proofs.problem_into.Tie as tie
@@ -91,8 +91,8 @@ no-orders-requires c κs = search needs
 no-shifts-requires : tie.Need-no-shifts-requires
 no-shifts-requires c κs = search needs
 
-no-coefficients-requires : tie.Need-no-coefficients-requires
-no-coefficients-requires c κs = search needs
+no-columns-requires : tie.Need-no-columns-requires
+no-columns-requires c κs = search needs
 
 off-requires-2 : tie.Need-off-requires-2
 off-requires-2 c κs =
@@ -144,7 +144,7 @@ unfolding problem-value
 returns-2 c =
     let c₃ = c .before .before .before in
     _∙_ {A = ReadProblem}
-    (λ i. with-arrays (c .off2 .ensures i) (c₃ .no-orders .ensures i) (c .before .before .no-shifts .ensures i) (c .before .no-coefficients .ensures i))
+    (λ i. with-arrays (c .off2 .ensures i) (c₃ .no-orders .ensures i) (c .before .before .no-shifts .ensures i) (c .before .no-columns .ensures i))
     (ap problem-value (sym (body-off (c₃ .before))))
 
 returns-3 : tie.Need-returns-3
@@ -167,7 +167,7 @@ problem-into-spec =
     enum-known-x-2
     no-orders-requires
     no-shifts-requires
-    no-coefficients-requires
+    no-columns-requires
     off-requires-2
     enum-told
     on-requires

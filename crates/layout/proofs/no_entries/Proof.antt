@@ -1,9 +1,8 @@
--- `reader::no_entries` meets its contract. Assumes nothing.
 use mathlib.Core.Path.{refl}
 use Rattle.rules.specs.Sizes.{most-rows, most-length}
-use Rattle.reader.specs.Flat.{filled}
-use Rattle.reader.proofs.no_entries.Statement.{statement}
-use Rattle.reader.proofs.no_entries.Tie as tie
+use Rattle.layout.specs.Flat.{filled}
+use Rattle.layout.proofs.no_entries.Statement.{statement}
+use Rattle.layout.proofs.no_entries.Tie as tie
 
 returns : tie.Need-returns
 unfolding filled most-rows most-length
