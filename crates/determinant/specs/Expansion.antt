@@ -8,7 +8,7 @@ use Prim.Native.Nat.{ℕ, zero, suc, pred, _+_, _%_, _≤_, _<_}
 use native.Mathlib.Nat.{mod-lt}
 use native.Mathlib.Numerals.{add-one}
 use native.Mathlib.Omega.{arith}
-use lib.ListN.{getD, replicate}
+use lib.ListN.{length, getD, replicate}
 use Rattle.algebra.specs.Ring as Ring
 use Rattle.algebra.specs.Ring.{CommRing, sign}
 use Rattle.algebra.specs.Sum.{sum, sum-last, skip, skip-below}
@@ -22,8 +22,9 @@ use Rattle.field.specs.declared.Modulus.{Modulus}
 use Rattle.field.specs.Modulus.{Made}
 use Rattle.layout.specs.Flat.{length-at, cell, cells}
 use Rattle.polynomial.specs.Coefficients.{most-power}
-use Rattle.determinant.specs.Padded.{Stands, Filled, Remainder, filled-small, filled-stands, getD-zeros, capacity}
-use Rattle.determinant.specs.Product.{AddedProduct}
+use Rattle.convolution.specs.Padded.{Stands, Filled, Remainder, filled-small, filled-stands, getD-zeros, capacity}
+use Rattle.convolution.specs.Steps.{with-product}
+use Rattle.convolution.specs.Product.{AddedProduct, added-product}
 use Rattle.determinant.specs.Sign.{signed, SignedEntry}
 use Rattle.determinant.specs.Tops.{Tops}
 use Rattle.determinant.specs.Square.{Holds, Asked, Determinant, square, Without}
@@ -139,17 +140,24 @@ module _ {μ : Modulus} {n row : ℕ} {entries lengths tops columns : List ℕ} 
   -- Where the product of the entry with its sign and the determinant of the square that is left is added, the sums have one term more.
   pub expanded-more : {j n′ : ℕ} {e l s s′ : List ℕ} (left : List ℕ) → j < suc n → length-at lengths row (getD columns j 0) ≡ n′ → 0 < n′
       → Without j columns left → Determinant p n (row + 1) entries tops left l → SignedEntry p row (getD columns j 0) n′ j entries e
-      → AddedProduct p n′ (getD tops (row + 1) 0) e l s s′ → Expanded p row n j entries tops columns s → Expanded p row n (j + 1) entries tops columns s′
-  expanded-more {j} {n′} left h has pos without minor-is entry added done = record {
-    value = λ i.
-        added .same f g (entry .stands zeros) below-f (minor-is .stands) (minor-is .below) i
-        ∙ ap₂ (λ x t. K p ._⊕_ x (t i)) (done .value i) same
-        ∙ ap (λ t. t i) (sym (more-terms j));
-    below =
-        subst (Below (K p) (suc (getD tops row 0))) (sym (more-terms j))
-        (below-add (K p) (total p entries row columns n j) (terms p entries row columns n j) (done .below) (subst (Below (K p) (suc (getD tops row 0))) same below-term));
-  }
+      → length s ≡ capacity → s′ ≡ with-product μ n′ (getD tops (row + 1) 0) e l s → Expanded p row n j entries tops columns s
+      → (length s′ ≡ capacity) × Expanded p row n (j + 1) entries tops columns s′
+  expanded-more {j} {n′} {e} {l} {s} {s′} left h has pos without minor-is entry long is done = (
+    added .long,
+    record {
+      value = λ i.
+          added .same f g (entry .stands zeros) below-f (minor-is .stands) (minor-is .below) i
+          ∙ ap₂ (λ x t. K p ._⊕_ x (t i)) (done .value i) same
+          ∙ ap (λ t. t i) (sym (more-terms j));
+      below =
+          subst (Below (K p) (suc (getD tops row 0))) (sym (more-terms j))
+          (below-add (K p) (total p entries row columns n j) (terms p entries row columns n j) (done .below) (subst (Below (K p) (suc (getD tops row 0))) same below-term));
+    },
+  )
     where
+      added : AddedProduct p n′ (getD tops (row + 1) 0) e l s s′
+      added = subst (AddedProduct p n′ (getD tops (row + 1) 0) e l s) (sym is) (added-product (asked .made) (product-fits h has) long)
+
       f : ℕ → Residue p
       f = signed p entries row (getD columns j 0) j
 

@@ -1,6 +1,4 @@
-pub mod Padded
-pub mod Fold
-pub mod Product
+pub mod Front
 pub mod Sign
 pub mod Tops
 pub mod Square

@@ -16,7 +16,7 @@ use Rattle.rules.specs.Sizes.{most-length}
 use Rattle.field.specs.Laws.{remainder-below, red-of-neg}
 use Rattle.layout.specs.Flat.{cell, cells, entry-place, cell-at}
 use Rattle.layout.specs.Holds.{Each}
-use Rattle.determinant.specs.Padded.{Stands, Filled, filled-small, filled-stands}
+use Rattle.convolution.specs.Padded.{Stands, Filled, filled-small, filled-stands}
 
 -- r is below p and is x with the sign of column j.
 pub record Signed (p j x r : ℕ) : Type 0 where

@@ -23,7 +23,7 @@ use Rattle.field.specs.declared.Modulus.{Modulus}
 use Rattle.field.specs.Modulus.{Made}
 use Rattle.layout.specs.Flat.{cells}
 use Rattle.layout.specs.Holds.{Each, Padded}
-use Rattle.determinant.specs.Padded.{Stands}
+use Rattle.convolution.specs.Padded.{Stands}
 use Rattle.determinant.specs.Tops.{Tops}
 
 -- The flat array holds an m × m matrix of polynomials modulo p, and lengths says how many coefficients each entry has.

@@ -13,7 +13,7 @@ use lib.Seq.{getD-set-same, getD-set-other}
 use Rattle.rules.specs.Sizes.{most-rows, most-length}
 use Rattle.layout.specs.Flat.{length-at}
 use Rattle.polynomial.specs.Coefficients.{most-power}
-use Rattle.determinant.specs.Padded.{getD-zeros}
+use Rattle.convolution.specs.Padded.{getD-zeros}
 
 -- No power above tops i occurs in a determinant of the rows from i on.
 pub record Tops (m : ℕ) (lengths tops : List ℕ) : Type 0 where

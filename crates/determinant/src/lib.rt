@@ -1,10 +1,12 @@
 // The determinant of a square of polynomials modulo p, as document 01 says it: "the signed sum of its first row's entries times the
 // determinants of the squares left. It is taken over polynomials, not at points." No square is copied: the entries stay in the one flat
 // array that the caller lends, and a square is the number of its first row and the list of its columns.
-//
-// A polynomial of the work stands in an array of CAPACITY numbers: two zeros, its coefficients from power 0 on, then zeros, at least
-// two of them. With these zeros the product of two polynomials needs no case for its ends.
-use field::CUT;
+// A polynomial of the work stands in an array as `convolution` has it.
+use convolution::CAPACITY;
+use convolution::add_product;
+use convolution::no_coefficients;
+use convolution::no_sums;
+use convolution::residues;
 use field::Modulus;
 use field::neg_mod;
 use layout::ENTRY_COEFFICIENTS;
@@ -15,8 +17,7 @@ use layout::square_place;
 use polynomial::COEFFICIENTS;
 use polynomial::Polynomial;
 ghost use mathlib.Core.Path.{_≡_};
-ghost use Prim.Native.Nat.{pred, max, _+_, _*_, _^_, _≤_, _<_};
-ghost use lib.ListN.{length, replicate};
+ghost use Prim.Native.Nat.{pred, max, _+_, _≤_, _<_};
 ghost use Rattle.algebra.specs.Residue.{K};
 ghost use Rattle.algebra.specs.Series.{Series};
 ghost use Rattle.algebra.specs.Sum.{skip};
@@ -25,128 +26,12 @@ ghost use Rattle.rules.specs.Sizes.{most-rows, most-length};
 ghost use Rattle.field.specs.Modulus.{Made};
 ghost use Rattle.layout.specs.Flat.{length-at, cells};
 ghost use Rattle.layout.specs.Holds.{Each};
-ghost use Rattle.polynomial.specs.Coefficients.{most-power, ZerosFrom, Ends, Coefficients};
-ghost use Rattle.determinant.specs.Padded.{capacity, Filled, Remainder};
-ghost use Rattle.determinant.specs.Fold.{Folded};
-ghost use Rattle.determinant.specs.Product.{Added, AddedTriple, AddedProduct};
+ghost use Rattle.polynomial.specs.Coefficients.{ZerosFrom, Ends, Coefficients};
 ghost use Rattle.determinant.specs.Sign.{Signed, SignedEntry};
 ghost use Rattle.determinant.specs.Tops.{Tops, RowTop};
 ghost use Rattle.determinant.specs.Square.{Holds, Asked, Determinant, Without};
 ghost use Rattle.determinant.specs.Expansion.{InOrder};
 ghost use Rattle.determinant.specs.Unpadded.{coefficient, Unpadded};
-
-// The numbers of an array that holds a polynomial.
-const CAPACITY: usize = 2 + COEFFICIENTS + 2;
-
-// The polynomial 0.
-fn no_coefficients() -> [u32; CAPACITY]
-    ensures { λ r. ⌜ r ≡ replicate capacity 0 ⌝ }
-{
-    [0; CAPACITY]
-}
-
-// Sums to which nothing has been added, one for each power.
-fn no_sums() -> [u64; CAPACITY]
-    ensures { λ r. ⌜ r ≡ replicate capacity 0 ⌝ }
-{
-    [0; CAPACITY]
-}
-
-// v: any sum.
-// A number below 2^56 that is v modulo p. It takes one product of 32-bit numbers and no division, so that a sum need not be divided
-// by p each time that something is added to it.
-fn fold(v: u64, modulus: Modulus) -> u64
-    requires { ⌜ Made modulus ⌝ }
-    ensures { λ r. ⌜ Folded (modulus .p) v r ⌝ }
-{
-    v / CUT * modulus.fold as u64 + v % CUT
-}
-
-// x and y: numbers below 2^31, as every number modulo an allowed prime is.
-// Their whole product: as both come from 32 bits, the processor makes two or more such products at once.
-fn product(x: u32, y: u32) -> u64
-    requires { ⌜ (x < 2 ^ 31) × (y < 2 ^ 31) ⌝ }
-    ensures { λ r. ⌜ (r ≡ x * y) × (r < 2 ^ 62) ⌝ }
-{
-    x as u64 * y as u64
-}
-
-// v: a sum. x, y and z: three coefficients in a row of one polynomial. minor: another polynomial. k: a power.
-// The sum with the coefficient at k of (x + y·X + z·X²) · minor added. A folded sum and three products always fit 64 bits.
-fn add_three(
-    v: u64,
-    x: u32,
-    y: u32,
-    z: u32,
-    minor: &[u32; CAPACITY],
-    k: usize,
-    modulus: Modulus,
-) -> u64
-    requires { ⌜ (x < 2 ^ 31) × ((y < 2 ^ 31) × (z < 2 ^ 31)) ⌝ }
-    requires { ⌜ (k + 2 < capacity) × Made modulus ⌝ }
-    requires { ⌜ Each (2 ^ 31) (now minor) ⌝ }
-    ensures { λ r. ⌜ Added (modulus .p) v x y z k (now (minor .entry)) r ⌝ }
-{
-    fold(v, modulus) + product(x, minor[k + 2]) + product(y, minor[k + 1]) + product(z, minor[k])
-}
-
-// sums: the sums, one for each power. entry and minor: two polynomials. at: a power. top: the highest power of minor.
-// Adds to the sums the terms of entry at the powers at, at + 1 and at + 2, times minor. Each turn does the same to its own sum, so
-// that turns are made side by side.
-fn add_triple(
-    sums: &mut [u64; CAPACITY],
-    entry: &[u32; CAPACITY],
-    at: usize,
-    minor: &[u32; CAPACITY],
-    top: usize,
-    modulus: Modulus,
-)
-    requires { ⌜ (at + top ≤ most-power) × (Made modulus × (length (now sums) ≡ capacity)) ⌝ }
-    requires { ⌜ Each (2 ^ 31) (now entry) × Each (2 ^ 31) (now minor) ⌝ }
-    ensures { λ _. ⌜ AddedTriple (modulus .p) at top (now (entry .entry)) (now (minor .entry)) (now (sums .entry)) (now (sums .exit)) ⌝ }
-{
-    let x = entry[at + 2];
-    let y = entry[at + 3];
-    let z = entry[at + 4];
-    for k in 0..top + 3 {
-        let s = at + k;
-        sums[s] = add_three(sums[s], x, y, z, minor, k, modulus);
-    }
-}
-
-// sums: the sums, one for each power. entry: a polynomial of count coefficients. minor: a polynomial with no power above top.
-// Adds to the sums the product of the two polynomials, three coefficients of entry at a time.
-fn add_product(
-    sums: &mut [u64; CAPACITY],
-    entry: &[u32; CAPACITY],
-    count: usize,
-    minor: &[u32; CAPACITY],
-    top: usize,
-    modulus: Modulus,
-)
-    requires { ⌜ (count + top ≤ most-power + 1) × (Made modulus × (length (now sums) ≡ capacity)) ⌝ }
-    requires { ⌜ Each (2 ^ 31) (now entry) × Each (2 ^ 31) (now minor) ⌝ }
-    ensures { λ _. ⌜ AddedProduct (modulus .p) count top (now (entry .entry)) (now (minor .entry)) (now (sums .entry)) (now (sums .exit)) ⌝ }
-{
-    let mut at = 0;
-    while at < count {
-        add_triple(sums, entry, at, minor, top, modulus);
-        at += 3;
-    }
-}
-
-// sums: the sums, one for each power. top: the highest power that has one. p: above 0.
-// The polynomial whose coefficients the sums are modulo p: one division for each coefficient.
-fn residues(sums: &[u64; CAPACITY], top: usize, p: u32) -> [u32; CAPACITY]
-    requires { ⌜ (0 < p) × (top ≤ most-power) ⌝ }
-    ensures { λ r. ⌜ Filled (top + 1) (Remainder p (now (sums .entry))) r ⌝ }
-{
-    let mut l = no_coefficients();
-    for k in 0..top + 1 {
-        l[k + 2] = (sums[k] % p as u64) as u32;
-    }
-    l
-}
 
 // x: a number below p. j: a column.
 // x with the sign of the column, modulo p: x itself in the even columns, its negative in the odd ones.

@@ -6,7 +6,7 @@ use mathlib.Core.Logic.{⊎-elim}
 use lib.ListN.{getD, length-replicate}
 use Rattle.rules.specs.Sizes.{most-rows}
 use Rattle.layout.specs.Flat.{square-place}
-use Rattle.determinant.specs.Padded.{capacity}
+use Rattle.convolution.specs.Padded.{capacity}
 use Rattle.determinant.specs.Sign.{SignedEntry}
 use Rattle.determinant.specs.Square.{Asked, Determinant, asked-row, asked-column, asked-below, asked-suc}
 use Rattle.determinant.specs.Expansion.{Expanded, expanded-none, expanded-zero, expanded-more, expanded-all, product-fits, asked-left, determinant-one}
@@ -19,10 +19,10 @@ use Rattle.determinant.proofs.+determinant+expand_row.Lts-determinant a
 use Rattle.determinant.proofs.expand_row.Reads as expand-row
 use Rattle.determinant.proofs.expand_row.Kinds as expand-row-kinds
 use Rattle.determinant.proofs.+determinant+expand_row.Lts-expand_row as expand-row-lts
-use Rattle.determinant.proofs.add_product.Reads as add-product-reads
+use Rattle.convolution.proofs.add_product.Reads as add-product-reads
 use Rattle.determinant.proofs.entry_length.Reads as entry-length-reads
-use Rattle.determinant.proofs.no_sums.Reads as no-sums-reads
-use Rattle.determinant.proofs.residues.Reads as residues-reads
+use Rattle.convolution.proofs.no_sums.Reads as no-sums-reads
+use Rattle.convolution.proofs.residues.Reads as residues-reads
 use Rattle.determinant.proofs.signed_entry.Reads as signed-entry-reads
 use Rattle.determinant.proofs.without.Reads as without-reads
 use Rattle.determinant.proofs.+determinant+expand_row.{statement}
@@ -241,11 +241,10 @@ expand-row-loop-again t c =
     let done = Expanded (a .modulus .p) (a .row) (a .size - 1) (loop .j + 1) (a .entries .now) (a .tops .now) (a .columns .now) in (
       omega arith,
       ⊎-elim
-          (λ w. (
-            ap lib.ListN.length (w .10) ∙ w .9 .ensures .long,
-            subst done (sym (w .10))
-                (expanded-more asked (w .1 .result) turn (sym (length .ensures)) (w .0 .taken) (w .1 .ensures) (w .3 .ensures) (w .4 .ensures) (w .9 .ensures) (loop .inv .1 .1)),
-          ))
+          (λ w.
+          subst (λ s. (lib.ListN.length s ≡ capacity) × done s) (sym (w .10))
+          (expanded-more asked (w .1 .result) turn (sym (length .ensures)) (w .0 .taken) (w .1 .ensures) (w .3 .ensures) (w .4 .ensures) (loop .inv .1 .0) (w .9 .ensures)
+          (loop .inv .1 .1)))
           (λ w. (
             ap lib.ListN.length (w .1) ∙ loop .inv .1 .0,
             subst done (sym (w .1)) (expanded-zero asked turn (omega (arith, length .ensures, w .0 .left)) (loop .inv .1 .1)),

@@ -2,17 +2,17 @@ use borrow.Author.Needs.{needs}
 use native.Mathlib.Omega.{arith}
 use Rattle.rules.specs.Sizes.{most-rows, most-length}
 use Rattle.polynomial.specs.Coefficients.{most-power}
-use Rattle.determinant.specs.Padded.{capacity, Filled, filled-none, filled-more}
-use mathlib.Core.Path.{_≡_, subst, sym, ap, _∙_}
-use Prim.Native.Nat.{ℕ, _+_, _-_, _≤_}
-use lib.ListN.{getD, length-set, length-replicate}
+use Rattle.convolution.specs.Padded.{capacity, Filled, filled-none, filled-more}
+use mathlib.Core.Path.{subst, sym}
+use Prim.Native.Nat.{_-_, _≤_}
+use lib.ListN.{getD}
 use Rattle.layout.specs.Flat.{entry-place}
 use Rattle.determinant.specs.Sign.{Signed, SignedCell, signed-cell, signed-entry}
 use Rattle.determinant.proofs.signed_entry.Statement.{statement}
 use Rattle.determinant.proofs.signed_entry.Tie as tie
 
 abbrev Inv-loop : tie.InvT-loop
-Inv-loop entries row column count j p l₀ k₀ l k = (k ≤ count) × ((lib.ListN.length l ≡ capacity) × Filled k (SignedCell p row column j entries) l)
+Inv-loop entries row column count j p l₀ k₀ l k = (k ≤ count) × Filled k (SignedCell p row column j entries) l
 
 abbrev μ-loop : tie.MeasureT-loop
 μ-loop entries row column count j p l₀ k₀ l k = count - k
@@ -25,7 +25,7 @@ loop-holds c =
     let a = c .before .args in
     let e = c .no-coefficients .ensures in
     let cell = SignedCell (a .p) (a .row) (a .column) (a .j) (a .entries .now) in
-    (omega arith, (ap lib.ListN.length e ∙ length-replicate {A = ℕ} capacity 0, subst (Filled 0 cell) (sym e) (filled-none cell capacity)))
+    (omega arith, subst (Filled 0 cell) (sym e) (filled-none cell))
 
 entry-place-requires : tie.Need-entry-place-requires Inv-loop μ-loop
 unfolding most-rows most-length
@@ -70,11 +70,8 @@ loop-again c =
     let x = c .with-sign .result in
     let place = subst (λ n. Signed (a .p) (a .j) (getD (a .entries .now) n 0) x) (c .before .before .entry-place .ensures) (c .with-sign .ensures) in (
       omega arith,
-      (
-        length-set (at-loop .l) (at-loop .k + 2) x ∙ at-loop .inv .1 .0,
-        filled-more (SignedCell (a .p) (a .row) (a .column) (a .j) (a .entries .now)) x (omega arith)
-            (signed-cell (a .p) (a .row) (a .column) (a .j) (a .entries .now) (omega arith) place) (at-loop .inv .1 .1),
-      ),
+      filled-more (SignedCell (a .p) (a .row) (a .column) (a .j) (a .entries .now)) x (omega arith)
+          (signed-cell (a .p) (a .row) (a .column) (a .j) (a .entries .now) (omega arith) place) (at-loop .inv .1),
     )
 
 returns : tie.Need-returns Inv-loop μ-loop
@@ -83,7 +80,7 @@ returns c =
     let a = b .args in
     let at-loop = c .before .loop in
     signed-entry (a .p) (a .row) (a .column) (a .count) (a .j) (a .entries .now) (at-loop .l) (omega (arith, b .pre .1 0))
-    (subst (λ n. Filled n (SignedCell (a .p) (a .row) (a .column) (a .j) (a .entries .now)) (at-loop .l)) (omega arith) (at-loop .inv .1 .1))
+    (subst (λ n. Filled n (SignedCell (a .p) (a .row) (a .column) (a .j) (a .entries .now)) (at-loop .l)) (omega arith) (at-loop .inv .1))
 
 pub signed-entry-spec : {M : Type 1} → statement M
 signed-entry-spec =

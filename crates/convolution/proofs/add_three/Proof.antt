@@ -1,12 +1,13 @@
 use borrow.Author.Needs.{needs}
+use mathlib.Core.Path.{ap₂}
 use native.Mathlib.Omega.{arith}
 use Rattle.rules.specs.Sizes.{most-rows, most-length}
 use Rattle.polynomial.specs.Coefficients.{most-power}
-use Rattle.determinant.specs.Padded.{capacity}
+use Rattle.convolution.specs.Padded.{capacity}
 use Prim.Native.Nat.{_+_}
-use Rattle.determinant.specs.Product.{added}
-use Rattle.determinant.proofs.add_three.Statement.{statement}
-use Rattle.determinant.proofs.add_three.Tie as tie
+use Rattle.convolution.specs.Steps.{with-three}
+use Rattle.convolution.proofs.add_three.Statement.{statement}
+use Rattle.convolution.proofs.add_three.Tie as tie
 
 fold-requires : tie.Need-fold-requires
 fold-requires c κs = search needs
@@ -62,10 +63,11 @@ add-result-3 : tie.Need-add-result-3
 add-result-3 c = search needs
 
 returns : tie.Need-returns
+unfolding with-three
 returns c =
     let before-three = c .before .before in
     let before-two = before-three .before .before in
-    added (before-two .before .before .fold .ensures) (before-two .product .ensures .0) (before-three .product2 .ensures .0) (c .product3 .ensures .0)
+    ap₂ _+_ (ap₂ _+_ (ap₂ _+_ (before-two .before .before .fold .ensures .0) (before-two .product .ensures .0)) (before-three .product2 .ensures .0)) (c .product3 .ensures .0)
 
 pub add-three-spec : {M : Type 1} → statement M
 add-three-spec =

@@ -2,16 +2,16 @@
 --   capacity                 the numbers of such an array
 --   Stands p l f             the array l stands for the polynomial f
 --   Filled n P l             the first n coefficients of l satisfy P 0, P 1, …, and everything else is 0
+--   filled-unique            where P settles the coefficients there is one such array
 use mathlib.Core.Path.{_≡_, refl, sym, ap, subst, _∙_}
-use mathlib.Core.Logic.{_≢_}
 use mathlib.Core.List.{List}
 use Prim.Native.Nat.{ℕ, zero, suc, _+_, _%_, _≤_, _<_}
 use native.Mathlib.Nat.{not-suc-le-zero}
 use native.Mathlib.Numerals.{add-two}
 use native.Mathlib.Omega.{arith}
 use native.Mathlib.Decide.{decLt, ℕ-discrete}
-use lib.ListN.{length, getD, set, replicate}
-use lib.Seq.{getD-set-same, getD-set-other}
+use lib.ListN.{length, getD, set, replicate, length-set, length-replicate}
+use lib.Seq.{getD-set-same, getD-set-other, ext-getD}
 use Rattle.algebra.specs.Residue.{K, Residue, red}
 use Rattle.algebra.specs.Series.{shift}
 use Rattle.algebra.specs.Polynomial.{Below}
@@ -28,6 +28,7 @@ Stands p l f = (i : ℕ) → red p (getD l i 0) ≡ shift (K p) 2 f i
 
 -- Two zeros, then n numbers of which the k-th satisfies P k, then zeros.
 pub record Filled (n : ℕ) (P : ℕ → ℕ → Type 0) (l : List ℕ) : Type 0 where
+  pub long : length l ≡ capacity
   pub front : (i : ℕ) → i < 2 → getD l i 0 ≡ 0
   pub middle : (k : ℕ) → k < n → P k (getD l (k + 2) 0)
   pub back : (i : ℕ) → n + 2 ≤ i → getD l i 0 ≡ 0
@@ -42,19 +43,22 @@ getD-zeros zero i = refl
 getD-zeros (suc n) zero = refl
 getD-zeros (suc n) (suc i) = getD-zeros n i
 
-different : (k n : ℕ) → k < n + 1 → k ≢ n → k < n
-different k n h ne = omega arith
-
 module _ (P : ℕ → ℕ → Type 0) where
-  pub filled-none : (n : ℕ) → Filled 0 P (replicate n 0)
-  filled-none n = record { front = λ i h. getD-zeros n i; middle = λ k h. absurd (not-suc-le-zero h); back = λ i h. getD-zeros n i }
+  pub filled-none : Filled 0 P (replicate capacity 0)
+  filled-none = record {
+    long = length-replicate {A = ℕ} capacity 0;
+    front = λ i h. getD-zeros capacity i;
+    middle = λ k h. absurd (not-suc-le-zero h);
+    back = λ i h. getD-zeros capacity i;
+  }
 
-  pub filled-more : {n : ℕ} {l : List ℕ} (x : ℕ) → n + 2 < length l → P n x → Filled n P l → Filled (n + 1) P (set l (n + 2) x)
-  filled-more {n} {l} x fits holds filled = record {
+  pub filled-more : {n : ℕ} {l : List ℕ} (x : ℕ) → n + 2 < capacity → P n x → Filled n P l → Filled (n + 1) P (set l (n + 2) x)
+  filled-more {n} {l} x room holds filled = record {
+    long = length-set l (n + 2) x ∙ filled .long;
     front = λ i h. getD-set-other l (n + 2) i x 0 (omega arith) ∙ filled .front i h;
     middle = λ k h. elim (ℕ-discrete k n) [
-      | yes q ↦ subst (λ j. P j (getD (set l (n + 2) x) (j + 2) 0)) (sym q) (subst (P n) (sym (getD-set-same l (n + 2) x 0 fits)) holds)
-      | no ne ↦ subst (P k) (sym (getD-set-other l (n + 2) (k + 2) x 0 (λ q. ne (omega arith)))) (filled .middle k (different k n h ne))
+      | yes q ↦ subst (λ j. P j (getD (set l (n + 2) x) (j + 2) 0)) (sym q) (subst (P n) (sym (getD-set-same l (n + 2) x 0 (omega (arith, filled .long)))) holds)
+      | no ne ↦ subst (P k) (sym (getD-set-other l (n + 2) (k + 2) x 0 (λ q. ne (omega arith)))) (filled .middle k (omega arith))
     ];
     back = λ i h. getD-set-other l (n + 2) i x 0 (omega arith) ∙ filled .back i (omega arith);
   }
@@ -78,9 +82,14 @@ module _ (P : ℕ → ℕ → Type 0) where
     | no h ↦ ap (red p) (filled .back (suc (suc k)) (omega arith)) ∙ sym (below k (omega arith))
   ]
 
-  -- One more number at the front of an array that is filled from the front.
-  pub front-more : (n : ℕ) (l : List ℕ) (x : ℕ) → n < length l → P n x → ((i : ℕ) → i < n → P i (getD l i 0)) → (i : ℕ) → i < n + 1 → P i (getD (set l n x) i 0)
-  front-more n l x fits holds below i h = elim (ℕ-discrete i n) [
-    | yes q ↦ subst (λ j. P j (getD (set l n x) j 0)) (sym q) (subst (P n) (sym (getD-set-same l n x 0 fits)) holds)
-    | no ne ↦ subst (P i) (sym (getD-set-other l n i x 0 ne)) (below i (different i n h ne))
-  ]
+  -- Where P settles each coefficient, all numbers are settled.
+  pub filled-unique : {n : ℕ} {l l′ : List ℕ} → ((k x x′ : ℕ) → P k x → P k x′ → x ≡ x′) → Filled n P l → Filled n P l′ → l ≡ l′
+  filled-unique {n} {l} {l′} one h h′ = ext-getD 0 l l′ (h .long ∙ sym (h′ .long)) (λ i b. same i)
+    where
+      same : (i : ℕ) → getD l i 0 ≡ getD l′ i 0
+      same zero = h .front 0 (omega arith) ∙ sym (h′ .front 0 (omega arith))
+      same (suc zero) = h .front 1 (omega arith) ∙ sym (h′ .front 1 (omega arith))
+      same (suc (suc k)) = elim (decLt k n) [
+        | yes b ↦ subst (λ i. getD l i 0 ≡ getD l′ i 0) (add-two k) (one k (getD l (k + 2) 0) (getD l′ (k + 2) 0) (h .middle k b) (h′ .middle k b))
+        | no b ↦ h .back (suc (suc k)) (omega arith) ∙ sym (h′ .back (suc (suc k)) (omega arith))
+      ]

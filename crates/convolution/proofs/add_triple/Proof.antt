@@ -1,19 +1,22 @@
 use native.Mathlib.Omega.{arith}
 use Rattle.rules.specs.Sizes.{most-rows, most-length}
 use Rattle.polynomial.specs.Coefficients.{most-power}
-use Rattle.determinant.specs.Padded.{capacity}
-use mathlib.Core.Path.{_≡_, _∙_}
-use Prim.Native.Nat.{_+_, _-_, _≤_}
-use lib.ListN.{length, length-set}
-use Rattle.determinant.specs.Product.{TripleLeft, triple-start, triple-again, triple-done}
-use Rattle.determinant.proofs.add_triple.Statement.{statement}
-use Rattle.determinant.proofs.add_triple.Tie as tie
+use Rattle.convolution.specs.Padded.{capacity}
+use mathlib.Core.Path.{_≡_, refl, sym, ap, _∙_}
+use mathlib.Core.List.{List}
+use Prim.Native.Nat.{ℕ, _+_, _-_, _≤_}
+use native.Mathlib.Numerals.{add-one}
+use lib.ListN.{length, getD, set, length-set}
+use Rattle.field.specs.declared.Modulus.{Modulus}
+use Rattle.convolution.specs.Steps.{with-three, with-turns, with-triple}
+use Rattle.convolution.proofs.add_triple.Statement.{statement}
+use Rattle.convolution.proofs.add_triple.Tie as tie
 
 abbrev Inv-loop : tie.InvT-loop
-Inv-loop sums₀ entry at minor top modulus x y z k₀ k-end sums k = (k ≤ k-end) × ((length sums ≡ capacity) × TripleLeft (modulus .p) at k x y z minor sums₀ sums)
+Inv-loop sums₀ f at g top modulus x y z k₀ k-end sums k = (k ≤ k-end) × ((length sums ≡ capacity) × (sums ≡ with-turns modulus at x y z g k sums₀))
 
 abbrev μ-loop : tie.MeasureT-loop
-μ-loop sums₀ entry at minor top modulus x y z k₀ k-end sums k = k-end - k
+μ-loop sums₀ f at g top modulus x y z k₀ k-end sums k = k-end - k
 
 add-x : tie.Need-add-x Inv-loop μ-loop
 unfolding capacity most-power most-rows most-length
@@ -56,8 +59,8 @@ unfolding capacity most-power most-rows most-length
 add-k-end c = omega arith
 
 loop-holds : tie.Need-loop-holds Inv-loop μ-loop
-loop-holds c =
-    (omega arith, (c .before .before .before .pre .0 .1 .1, triple-start))
+unfolding with-turns
+loop-holds c = (omega arith, (c .before .before .before .pre .0 .1 .1, refl))
 
 add-s : tie.Need-add-s Inv-loop μ-loop
 unfolding capacity most-power most-rows most-length
@@ -94,25 +97,37 @@ loop-less : tie.Need-loop-less Inv-loop μ-loop
 unfolding capacity most-power most-rows most-length
 loop-less c = omega arith
 
+-- The sums after one turn more.
+turned : (μ : Modulus) (at x y z : ℕ) (g : List ℕ) (k r : ℕ) (s₀ s : List ℕ) → r ≡ with-three μ x y z g k (getD s (at + k) 0) → s ≡ with-turns μ at x y z g k s₀
+    → set s (at + k) r ≡ with-turns μ at x y z g (k + 1) s₀
+unfolding with-turns
+turned μ at x y z g k r s₀ s three e =
+    ap (set s (at + k)) three
+    ∙ ap (λ (l : List ℕ). set l (at + k) (with-three μ x y z g k (getD l (at + k) 0))) e
+    ∙ ap (λ n. with-turns μ at x y z g n s₀) (sym (add-one k))
+
 loop-again : tie.Need-loop-again Inv-loop μ-loop
-unfolding capacity most-power most-rows most-length
 loop-again c =
-    let at = c .before .before .before .before .before .before .before .args .at in
+    let a = c .before .before .before .before .before .before .before .args in
+    let f = a .f .now in
     let at-loop = c .before .before .before .loop in (
       omega arith,
       (
-        length-set (at-loop .sums) (at + at-loop .k) (c .add-three .result) ∙ at-loop .inv .1 .0,
-        triple-again (omega arith) (c .add-three .ensures) (at-loop .inv .1 .1),
+        length-set (at-loop .sums) (a .at + at-loop .k) (c .add-three .result) ∙ at-loop .inv .1 .0,
+        turned (a .modulus) (a .at) (getD f (a .at + 2) 0) (getD f (a .at + 3) 0) (getD f (a .at + 4) 0) (a .g .now) (at-loop .k) (c .add-three .result)
+            (a .sums .now) (at-loop .sums) (c .add-three .ensures) (at-loop .inv .1 .1),
       ),
     )
 
 returns : tie.Need-returns Inv-loop μ-loop
+unfolding with-triple
 returns c =
+    let a = c .before .before .before .before .before .args in
+    let f = a .f .now in
     let at-loop = c .before .loop in
-    record {
-      long = at-loop .inv .1 .0;
-      same = λ zeros. triple-done (at-loop .inv .1 .1) (λ i le. zeros i (omega arith));
-    }
+    let turns : at-loop .k ≡ a .top + 3 = omega arith in
+    at-loop .inv .1 .1
+    ∙ ap (λ n. with-turns (a .modulus) (a .at) (getD f (a .at + 2) 0) (getD f (a .at + 3) 0) (getD f (a .at + 4) 0) (a .g .now) n (a .sums .now)) turns
 
 pub add-triple-spec : {M : Type 1} → statement M
 add-triple-spec =

@@ -2,16 +2,16 @@ use borrow.Author.Needs.{needs}
 use native.Mathlib.Omega.{arith}
 use Rattle.rules.specs.Sizes.{most-rows, most-length}
 use Rattle.polynomial.specs.Coefficients.{most-power}
-use Rattle.determinant.specs.Padded.{capacity, Filled, Remainder, filled-none, filled-more}
-use mathlib.Core.Path.{_≡_, refl, subst, sym, ap, _∙_}
-use Prim.Native.Nat.{ℕ, _+_, _-_, _%_, _≤_}
+use Rattle.convolution.specs.Padded.{capacity, Filled, Remainder, filled-none, filled-more}
+use mathlib.Core.Path.{refl, subst, sym}
+use Prim.Native.Nat.{_+_, _-_, _%_, _≤_}
 use native.Mathlib.Nat.{mod-lt}
-use lib.ListN.{length, getD, length-set, length-replicate}
-use Rattle.determinant.proofs.residues.Statement.{statement}
-use Rattle.determinant.proofs.residues.Tie as tie
+use lib.ListN.{getD}
+use Rattle.convolution.proofs.residues.Statement.{statement}
+use Rattle.convolution.proofs.residues.Tie as tie
 
 abbrev Inv-loop : tie.InvT-loop
-Inv-loop sums top p l₀ k₀ k-end l k = (k ≤ k-end) × ((length l ≡ capacity) × Filled k (Remainder p sums) l)
+Inv-loop sums top p l₀ k₀ k-end l k = (k ≤ k-end) × Filled k (Remainder p sums) l
 
 abbrev μ-loop : tie.MeasureT-loop
 μ-loop sums top p l₀ k₀ k-end l k = k-end - k
@@ -28,7 +28,7 @@ loop-holds c =
     let a = c .before .args in
     let e = c .no-coefficients .ensures in
     let remainders = Remainder (a .p) (a .sums .now) in
-    (omega arith, (ap length e ∙ length-replicate {A = ℕ} capacity 0, subst (Filled 0 remainders) (sym e) (filled-none remainders capacity)))
+    (omega arith, subst (Filled 0 remainders) (sym e) (filled-none remainders))
 
 mul-l : tie.Need-mul-l Inv-loop μ-loop
 unfolding capacity most-power most-rows most-length
@@ -73,14 +73,13 @@ loop-again c =
     let a = c .before .before .before .before .args in
     let at-loop = c .before .before .loop in
     let x = getD (a .sums .now) (at-loop .k) 0 % a .p in
-    let longer = length-set (at-loop .l) (at-loop .k + 2) x ∙ at-loop .inv .1 .0 in
-    (omega arith, (longer, filled-more (Remainder (a .p) (a .sums .now)) x (omega arith) refl (at-loop .inv .1 .1)))
+    (omega arith, filled-more (Remainder (a .p) (a .sums .now)) x (omega arith) refl (at-loop .inv .1))
 
 returns : tie.Need-returns Inv-loop μ-loop
 returns c =
     let a = c .before .before .before .args in
     let at-loop = c .before .loop in
-    subst (λ n. Filled n (Remainder (a .p) (a .sums .now)) (at-loop .l)) (omega arith) (at-loop .inv .1 .1)
+    subst (λ n. Filled n (Remainder (a .p) (a .sums .now)) (at-loop .l)) (omega arith) (at-loop .inv .1)
 
 pub residues-spec : {M : Type 1} → statement M
 residues-spec =

@@ -1,8 +1,8 @@
 use native.Mathlib.Omega.{arith}
 use mathlib.Core.Path.{refl}
 use Rattle.layout.specs.Words.{product-small}
-use Rattle.determinant.proofs.product.Statement.{statement}
-use Rattle.determinant.proofs.product.Tie as tie
+use Rattle.convolution.proofs.product.Statement.{statement}
+use Rattle.convolution.proofs.product.Tie as tie
 
 mul-result : tie.Need-mul-result
 mul-result c = omega (arith, product-small (c .pre .0) (c .pre .1))

@@ -1,0 +1,6 @@
+pub mod Padded
+pub mod Steps
+pub mod Fold
+pub mod Shifted
+pub mod Triple
+pub mod Product
