@@ -3,4 +3,3 @@ pub mod Degree
 pub mod From
 pub mod Degrees
 pub mod Claims
-pub mod Unique

@@ -4,4 +4,3 @@ pub mod Tops
 pub mod Square
 pub mod Expansion
 pub mod Unpadded
-pub mod Unique

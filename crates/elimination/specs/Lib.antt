@@ -2,4 +2,3 @@ pub mod Steps
 pub mod Grid
 pub mod Lists
 pub mod Laws
-pub mod Unique

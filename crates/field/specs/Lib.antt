@@ -2,4 +2,3 @@ pub mod Laws
 pub mod Meant
 pub mod Modulus
 pub mod Table
-pub mod Unique

@@ -2,4 +2,3 @@ pub mod Fill
 pub mod Leading
 pub mod Rank
 pub mod Claims
-pub mod Unique

@@ -3,13 +3,14 @@
 --   nonzeros g n             how many of g 0, …, g (n − 1) are not 0
 --   TestsMonomial l r        r tells whether the polynomial of l is a nonzero constant times a power of X, whatever its modulus
 --   count-settles            the count tells it
+--   tests-unique             the test has one answer
 --   tests-monomial           what that tells of the polynomial whose coefficients they are
 use mathlib.Core.Path.{_≡_, refl, sym, ap, subst, _∙_}
 use mathlib.Core.Logic.{_≢_}
 use mathlib.Core.Bool.{Bool, cond}
-use mathlib.Core.List.{List}
+use mathlib.Core.List.{List, [], _∷_}
 use Prim.Native.Nat.{ℕ, zero, suc, _+_, _≤_, _<_}
-use native.Mathlib.Nat.{mod-eq-of-lt, not-suc-le-zero}
+use native.Mathlib.Nat.{mod-eq-of-lt, not-suc-le-zero, zero-lt-suc}
 use native.Mathlib.Numerals.{add-one}
 use native.Mathlib.Omega.{arith}
 use native.Mathlib.Decide.{decLt, ℕ-discrete}
@@ -20,7 +21,7 @@ use Rattle.algebra.specs.Residue.{K, Residue, red, red-zero-iff}
 use Rattle.algebra.specs.OrderBasis.{Monomial}
 use Rattle.rules.specs.Matrices.{polynomial}
 use Rattle.layout.specs.Holds.{Each}
-use Rattle.layout.specs.Settles.{Settles}
+use Rattle.layout.specs.Settles.{Settles, settles-unique}
 use Rattle.polynomial.specs.Coefficients.{ZerosFrom, Coefficients}
 use Rattle.polynomial.specs.declared.Polynomial.{Polynomial}
 
@@ -129,6 +130,21 @@ count-settles l {n} {r} zeros counts p small = record {
 
     zero-below : (k : ℕ) → red p (g k) ≡ K p .𝟘 → g k ≡ 0
     zero-below k z = sym (mod-eq-of-lt (small k)) ∙ red-zero-iff p (omega (arith, small k)) (g k) .0 z
+
+-- Some number is above all of a list …
+unfoldable above : List ℕ → ℕ
+above [] = 1
+above (x ∷ l) = suc x + above l
+
+each-above : (l : List ℕ) → Each (above l) l
+unfolding above
+each-above [] i = zero-lt-suc 0
+each-above (x ∷ l) zero = omega arith
+each-above (x ∷ l) (suc i) = omega (arith, each-above l i)
+
+-- … so that the test has one answer.
+pub tests-unique : (l : List ℕ) (r r′ : Bool) → TestsMonomial l r → TestsMonomial l r′ → r ≡ r′
+tests-unique l r r′ t t′ = settles-unique r r′ (t (above l) (each-above l)) (t′ (above l) (each-above l))
 
 -- What that tells of the polynomial whose coefficients they are.
 pub tests-monomial : {p : ℕ} {f : ℕ → Residue p} {x : Polynomial} {r : Bool} → Coefficients p f x → TestsMonomial (x .coefficients) r → Settles

@@ -1,3 +1,2 @@
 pub mod Coefficients
 pub mod Count
-pub mod Unique

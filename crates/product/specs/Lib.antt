@@ -3,4 +3,3 @@ pub mod Product
 pub mod Search
 pub mod Faults
 pub mod Claims
-pub mod Unique
