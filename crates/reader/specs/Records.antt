@@ -7,10 +7,9 @@
 --   record-refused, record-given, then-refused, then-given, refused-into      a record by its next field
 --   field-number             one field is of one record
 --   sizes-reader             the last two fields of the `PR` record
---   count-reader, sound-counts, length-field, PE-after-mark      the fields of the `PE` record before its coefficients
+--   count-reader, sound-counts, PE-after-mark      the fields of the `PE` record before its coefficients
 --   beside                   numbers stored beside their count
 use mathlib.Core.Path.{_≡_, refl, sym, ap, fun-ext, _∙_}
-use mathlib.Core.Bool.{Bool, cond}
 use mathlib.Core.List.{List}
 use Prim.Native.Nat.{ℕ, _≤_, _<_}
 use native.Mathlib.Omega.{arith}
@@ -28,8 +27,6 @@ use Rattle.place.specs.declared.Field.the-variants.{Value, Off as Field-Off}
 use Rattle.place.specs.declared.Going.{Going}
 use Rattle.place.specs.declared.Going.the-variants.{On, Off}
 use Rattle.place.specs.Places.{place, refusal, taken, going, closed-of, Numbered}
-use Rattle.cursor.specs.Tests.{between}
-use Rattle.cursor.specs.Fields.{between-high}
 use Rattle.reader.specs.Storing.{into, into-got}
 
 -- The end of a record: the next one has the next number.
@@ -116,10 +113,6 @@ count-reader i j = field 1 (due i) >>= λ a. field 1 (due j) >>= λ b. field 1 (
 pub sound-counts : (i j : ℕ) → Sound 3 0 (λ L. L ≤ most-length) (count-reader i j)
 unfolding count-reader
 sound-counts i j = sound-next (sound-due i) (λ a ha. sound-next (sound-due j) (λ b hb. sound-count))
-
--- The size test of a count, in the code's tests.
-pub length-field : (most : ℕ) → field 1 (unless 3 (between 0 most)) ≡ field 1 (unless 3 (λ L. leb L most))
-length-field most = ap (λ (t : ℕ → ℕ). field 1 t) (fun-ext (λ v. ap (λ (b : Bool). cond {A = ℕ} b 0 3) (between-high 0 most v (omega arith))))
 
 next-assoc : {A B C : Type 0} (m : Result A) (f : A → Place → Result B) (g : B → Place → Result C) → next (next m f) g ≡ next m (λ a q. next (f a q) g)
 unfolding next

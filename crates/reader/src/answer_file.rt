@@ -13,8 +13,9 @@ ghost use Rattle.reader.specs.Records.{count-reader};
 ghost use Rattle.reader.specs.Values.{answer-parts};
 use crate::runs::block;
 use crate::runs::run;
-use cursor::Test;
-use cursor::read;
+use cursor::read_count;
+use cursor::read_due;
+use cursor::read_mark;
 use layout::LENGTH;
 use layout::ROWS;
 use layout::entry_place;
@@ -37,11 +38,11 @@ fn entry_count(s: &[u8], q: Place, i: usize, j: usize) -> Field
     requires { ⌜ (i < most-rows) × (j < most-rows) ⌝ }
     ensures { λ r. ⌜ taken r ≡ count-reader i j (now (s .entry)) (place q) ⌝ }
 {
-    match read(s, q, Test::Due, i as u32, 0) {
+    match read_due(s, q, i as u32) {
         Field::Off(x) => Field::Off(x),
-        Field::Value(_, q1) => match read(s, q1, Test::Due, j as u32, 0) {
+        Field::Value(_, q1) => match read_due(s, q1, j as u32) {
             Field::Off(x) => Field::Off(x),
-            Field::Value(_, q2) => read(s, q2, Test::Size, 0, LENGTH as u32),
+            Field::Value(_, q2) => read_count(s, q2, LENGTH as u32),
         },
     }
 }
@@ -60,7 +61,7 @@ fn read_entry(
     requires { ⌜ (q .number < 65535) × (i < most-rows) × (j < most-rows) × (length (now lengths) ≡ square) × (length (now entries) ≡ entry-coefficients) ⌝ }
     ensures { λ r. ⌜ going r (now (lengths .exit), now (entries .exit)) ≡ into (put-entry i (now (lengths .entry), now (entries .entry)) j) (PE p i j (now (s .entry)) (place q)) ⌝ }
 {
-    match read(s, opened(q), Test::Mark, PE, 0) {
+    match read_mark(s, opened(q), PE) {
         Field::Off(x) => Going::Off(x),
         Field::Value(_, q1) => match entry_count(s, q1, i, j) {
             Field::Off(x) => Going::Off(x),
@@ -142,7 +143,7 @@ pub(crate) fn read_evidence(
     requires { ⌜ (q .number < 65535) × (m ≤ most-rows) × (n ≤ most-rows) × (length (now out) ≡ square) ⌝ }
     ensures { λ r. ⌜ going r (now (out .exit)) ≡ into (evidence-into (now (out .entry))) (CE p m n (now (s .entry)) (place q)) ⌝ }
 {
-    match read(s, opened(q), Test::Mark, CE, 0) {
+    match read_mark(s, opened(q), CE) {
         Field::Off(x) => Going::Off(x),
         Field::Value(_, q1) => closed(block(s, q1, p, m, n, out, 0, ROWS)),
     }

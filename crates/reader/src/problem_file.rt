@@ -13,9 +13,11 @@ ghost use Rattle.reader.specs.Flat.{list-into, shifts-into, put-column, 
 ghost use Rattle.reader.specs.Records.{sizes-reader};
 ghost use Rattle.reader.specs.Values.{body-reader};
 use crate::runs::block;
-use cursor::Test;
-use cursor::read;
+use cursor::read_due;
+use cursor::read_mark;
 use cursor::read_prime;
+use cursor::read_shift;
+use cursor::read_size;
 use cursor::signed16;
 use layout::ORDER;
 use layout::ROWS;
@@ -60,7 +62,7 @@ fn order_list(s: &[u8], q: Place, n: usize, out: &mut [usize]) -> Going
     let mut here = q;
     let mut j = 0;
     while j < n {
-        match read(s, here, Test::Size, 1, ORDER as u32) {
+        match read_size(s, here, ORDER as u32) {
             Field::Off(x) => return Going::Off(x),
             Field::Value(v, next) => {
                 out[j] = v as usize;
@@ -81,7 +83,7 @@ fn shift_list(s: &[u8], q: Place, m: usize, out: &mut [i32]) -> Going
     let mut here = q;
     let mut i = 0;
     while i < m {
-        match read(s, here, Test::Shift, 0, 0) {
+        match read_shift(s, here) {
             Field::Off(x) => return Going::Off(x),
             Field::Value(v, next) => {
                 out[i] = signed16(v);
@@ -99,9 +101,9 @@ fn head_sizes(s: &[u8], q: Place, p: u32) -> Headed
     requires { ⌜ q .number < 65535 ⌝ }
     ensures { λ r. ⌜ headed r ≡ sizes-reader p (now (s .entry)) (place q) ⌝ }
 {
-    match read(s, q, Test::Size, 1, ROWS as u32) {
+    match read_size(s, q, ROWS as u32) {
         Field::Off(x) => Headed::Off(x),
-        Field::Value(m, q1) => match read(s, q1, Test::Size, 1, ROWS as u32) {
+        Field::Value(m, q1) => match read_size(s, q1, ROWS as u32) {
             Field::Off(x) => Headed::Off(x),
             Field::Value(n, q2) => Headed::Got(
                 Sizes {
@@ -121,7 +123,7 @@ pub(crate) fn read_head(s: &[u8], q: Place) -> Headed
     requires { ⌜ q .number < 65535 ⌝ }
     ensures { λ r. ⌜ headed r ≡ PR (now (s .entry)) (place q) ⌝ }
 {
-    match read(s, opened(q), Test::Mark, PR, 0) {
+    match read_mark(s, opened(q), PR) {
         Field::Off(x) => Headed::Off(x),
         Field::Value(_, q1) => match read_prime(s, q1) {
             Field::Off(x) => Headed::Off(x),
@@ -136,7 +138,7 @@ pub(crate) fn read_orders(s: &[u8], q: Place, n: usize, out: &mut [usize]) -> Go
     requires { ⌜ (q .number < 65535) × (n ≤ length (now out)) ⌝ }
     ensures { λ r. ⌜ going r (now (out .exit)) ≡ into (list-into (now (out .entry))) (OR n (now (s .entry)) (place q)) ⌝ }
 {
-    match read(s, opened(q), Test::Mark, OR, 0) {
+    match read_mark(s, opened(q), OR) {
         Field::Off(x) => Going::Off(x),
         Field::Value(_, q1) => closed(order_list(s, q1, n, out)),
     }
@@ -148,7 +150,7 @@ pub(crate) fn read_shifts(s: &[u8], q: Place, m: usize, out: &mut [i32]) -> Goin
     requires { ⌜ (q .number < 65535) × (m ≤ length (now out)) ⌝ }
     ensures { λ r. ⌜ going r (now (out .exit)) ≡ into (shifts-into (now (out .entry))) (SH m (now (s .entry)) (place q)) ⌝ }
 {
-    match read(s, opened(q), Test::Mark, SH, 0) {
+    match read_mark(s, opened(q), SH) {
         Field::Off(x) => Going::Off(x),
         Field::Value(_, q1) => closed(shift_list(s, q1, m, out)),
     }
@@ -160,9 +162,9 @@ fn read_column(s: &[u8], q: Place, p: u32, m: usize, d: usize, j: usize, out: &m
     requires { ⌜ (q .number < 65535) × (m ≤ most-rows) × (d ≤ most-order) × (j < most-rows) × (length (now out) ≡ column-coefficients) ⌝ }
     ensures { λ r. ⌜ going r (now (out .exit)) ≡ into (put-column (now (out .entry)) j) (FC p m d j (now (s .entry)) (place q)) ⌝ }
 {
-    match read(s, opened(q), Test::Mark, FC, 0) {
+    match read_mark(s, opened(q), FC) {
         Field::Off(x) => Going::Off(x),
-        Field::Value(_, q1) => match read(s, q1, Test::Due, j as u32, 0) {
+        Field::Value(_, q1) => match read_due(s, q1, j as u32) {
             Field::Off(x) => Going::Off(x),
             Field::Value(_, q2) => closed(block(s, q2, p, m, d, out, column_place(0, j, 0), ORDER)),
         },

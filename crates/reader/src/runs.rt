@@ -5,22 +5,12 @@ ghost use lib.ListN.{length};
 ghost use Rattle.rules.specs.Reader.{field, each};
 ghost use Rattle.rules.specs.Files.{coefficient-test, residue};
 ghost use Rattle.place.specs.Places.{place, going};
-ghost use Rattle.cursor.specs.Tests.{coefficient-of};
 ghost use Rattle.reader.specs.Storing.{into};
 ghost use Rattle.reader.specs.Flat.{run-into, block-into};
-use cursor::Test;
-use cursor::read;
+use cursor::read_coefficient;
 use place::Field;
 use place::Going;
 use place::Place;
-
-// last: whether a coefficient is an entry's last one, which may not be 0.
-// Its test.
-fn coefficient(last: bool) -> Test
-    ensures { λ r. ⌜ r ≡ coefficient-of last ⌝ }
-{
-    if last { Test::Last } else { Test::Residue }
-}
 
 // s: the file. q: the place of the first of `count` coefficients modulo p. last: the count at which one may not be 0, or 0. out: where they go, from `base` on.
 // How the reading goes on after them.
@@ -39,7 +29,7 @@ pub(crate) fn run(
     let mut here = q;
     let mut k = 0;
     while k < count {
-        match read(s, here, coefficient(k + 1 == last), p, 0) {
+        match read_coefficient(s, here, p, last, k) {
             Field::Off(x) => return Going::Off(x),
             Field::Value(v, next) => {
                 out[base + k] = v;

@@ -12,22 +12,22 @@ use Rattle.place.specs.Places.{place, taken}
 use Rattle.reader.proofs.problem_file.head_sizes.Statement.{statement}
 use Rattle.reader.proofs.problem_file.head_sizes.Tie as tie
 
-cast-read : tie.Need-cast-read
-cast-read c = search needs
+cast-read-size : tie.Need-cast-read-size
+cast-read-size c = search needs
 
-read-requires : tie.Need-read-requires
-read-requires c κs = search needs
+read-size-requires : tie.Need-read-size-requires
+read-size-requires c κs = search needs
 
 -- The fields m and n are the rules' at their places.
-m-read : (c : tie.After-read) → let args = c .before .before .args in
-    taken (c .read .result) ≡ field 1 (unless 3 (one-to most-rows)) (args .s .now) (place (args .q))
+m-read : (c : tie.After-read-size) → let args = c .before .before .args in
+    taken (c .read-size .result) ≡ field 1 (unless 3 (one-to most-rows)) (args .s .now) (place (args .q))
 unfolding most-rows
-m-read c = c .read .ensures
+m-read c = c .read-size .ensures
 
-n-read : (c : tie.After-read2) → let c₆ = c .before .before .before .before .before .before in
-    taken (c .read2 .result) ≡ field 1 (unless 3 (one-to most-rows)) (c₆ .args .s .now) (place (c .before .before .m .given .0 .1 .0))
+n-read : (c : tie.After-read-size2) → let c₆ = c .before .before .before .before .before .before in
+    taken (c .read-size2 .result) ≡ field 1 (unless 3 (one-to most-rows)) (c₆ .args .s .now) (place (c .before .before .m .given .0 .1 .0))
 unfolding most-rows
-n-read c = c .read2 .ensures
+n-read c = c .read-size2 .ensures
 
 enum-known-x : tie.Need-enum-known-x
 enum-known-x c = search needs
@@ -35,11 +35,11 @@ enum-known-x c = search needs
 enum-known-m : tie.Need-enum-known-m
 enum-known-m c = search needs
 
-cast-read-2 : tie.Need-cast-read-2
-cast-read-2 c = search needs
+cast-read-size-2 : tie.Need-cast-read-size-2
+cast-read-size-2 c = search needs
 
-read-requires-2 : tie.Need-read-requires-2
-read-requires-2 c κs = search needs
+read-size-requires-2 : tie.Need-read-size-requires-2
+read-size-requires-2 c κs = search needs
 
 enum-known-x-2 : tie.Need-enum-known-x-2
 enum-known-x-2 c = search needs
@@ -47,11 +47,11 @@ enum-known-x-2 c = search needs
 enum-known-n : tie.Need-enum-known-n
 enum-known-n c = search needs
 
-cast-t18 : tie.Need-cast-t18
-cast-t18 c = search needs
+cast-t16 : tie.Need-cast-t16
+cast-t16 c = search needs
 
-cast-t19 : tie.Need-cast-t19
-cast-t19 c = search needs
+cast-t17 : tie.Need-cast-t17
+cast-t17 c = search needs
 
 after-requires : tie.Need-after-requires
 after-requires c κs =
@@ -87,16 +87,16 @@ pub head-sizes-spec : {M : Type 1} → statement M
 head-sizes-spec =
     tie.close
     (tie.spec
-    cast-read
-    read-requires
+    cast-read-size
+    read-size-requires
     enum-known-x
     enum-known-m
-    cast-read-2
-    read-requires-2
+    cast-read-size-2
+    read-size-requires-2
     enum-known-x-2
     enum-known-n
-    cast-t18
-    cast-t19
+    cast-t16
+    cast-t17
     after-requires
     returns
     returns-2

@@ -20,20 +20,20 @@ Inv-loop s n out₀ here₀ j₀ out here j =
 abbrev μ-loop : tie.MeasureT-loop
 μ-loop s n out₀ here₀ j₀ out here j = n - j
 
--- What `read` gives is the rules' field at the present place.
-order-read : (c : tie.After-read Inv-loop μ-loop) → let c₅ = c .before .before .before .before .before in
-    taken (c .read .result) ≡ field 1 (unless 3 (one-to most-order)) (c₅ .args .s .now) (place (c .before .before .loop .here))
+-- What `read_size` gives is the rules' field at the present place.
+order-read : (c : tie.After-read-size Inv-loop μ-loop) → let c₅ = c .before .before .before .before .before in
+    taken (c .read-size .result) ≡ field 1 (unless 3 (one-to most-order)) (c₅ .args .s .now) (place (c .before .before .loop .here))
 unfolding most-order
-order-read c = c .read .ensures
+order-read c = c .read-size .ensures
 
 loop-holds : tie.Need-loop-holds Inv-loop μ-loop
 loop-holds c = (omega arith, refl, began _ _ _ _ _ _)
 
-cast-read : tie.Need-cast-read Inv-loop μ-loop
-cast-read c = search needs
+cast-read-size : tie.Need-cast-read-size Inv-loop μ-loop
+cast-read-size c = search needs
 
-read-requires : tie.Need-read-requires Inv-loop μ-loop
-read-requires c κs = search needs
+read-size-requires : tie.Need-read-size-requires Inv-loop μ-loop
+read-size-requires c κs = search needs
 
 enum-known-x : tie.Need-enum-known-x Inv-loop μ-loop
 enum-known-x c = search needs
@@ -88,8 +88,8 @@ order-list-spec =
     Inv-loop
     μ-loop
     loop-holds
-    cast-read
-    read-requires
+    cast-read-size
+    read-size-requires
     enum-known-x
     same-length
     returns

@@ -20,13 +20,13 @@ use Rattle.reader.proofs.problem_file.read_column.Tie as tie
 opened-requires : tie.Need-opened-requires
 opened-requires c κs = search needs
 
-read-requires : tie.Need-read-requires
-read-requires c κs = search needs
+read-mark-requires : tie.Need-read-mark-requires
+read-mark-requires c κs = search needs
 
 -- The mark, at the record's first byte.
-mark-read : (c : tie.After-read) → let args = c .before .before .before .before .args in
-    taken (c .read .result) ≡ mark FC-mark (args .s .now) (opening (place (args .q)))
-mark-read c = marked FC-mark _ (c .before .opened .ensures) (c .read .ensures)
+mark-read : (c : tie.After-read-mark) → let args = c .before .before .before .before .args in
+    taken (c .read-mark .result) ≡ mark FC-mark (args .s .now) (opening (place (args .q)))
+mark-read c = marked FC-mark _ (c .before .opened .ensures) (c .read-mark .ensures)
 
 enum-known-x : tie.Need-enum-known-x
 enum-known-x c = search needs
@@ -34,12 +34,12 @@ enum-known-x c = search needs
 enum-known-q1 : tie.Need-enum-known-q1
 enum-known-q1 c = search needs
 
-cast-read : tie.Need-cast-read
+cast-read-due : tie.Need-cast-read-due
 unfolding most-rows
-cast-read c = omega arith
+cast-read-due c = omega arith
 
-read-requires-2 : tie.Need-read-requires-2
-read-requires-2 c κs = search needs
+read-due-requires : tie.Need-read-due-requires
+read-due-requires c κs = search needs
 
 enum-known-x-2 : tie.Need-enum-known-x-2
 enum-known-x-2 c = search needs
@@ -52,9 +52,9 @@ unfolding most-rows most-order
 column-place-requires c κs = search needs
 
 -- The column number, at the place after the mark.
-due-read : (c : tie.After-read2) → let args = c .before .before .before .before .before .before .before .before .args in
-    taken (c .read2 .result) ≡ field 1 (due (args .j)) (args .s .now) (place (c .before .before .q1 .given .0 .1 .0))
-due-read c = c .read2 .ensures
+due-read : (c : tie.After-read-due) → let args = c .before .before .before .before .before .before .before .before .args in
+    taken (c .read-due .result) ≡ field 1 (due (args .j)) (args .s .now) (place (c .before .before .q1 .given .0 .1 .0))
+due-read c = c .read-due .ensures
 
 -- What `block` gives and leaves is the rules' block, stored in the column's place.
 block-read : (c : tie.After-block)
@@ -123,11 +123,11 @@ read-column-spec =
     tie.close
     (tie.spec
     opened-requires
-    read-requires
+    read-mark-requires
     enum-known-x
     enum-known-q1
-    cast-read
-    read-requires-2
+    cast-read-due
+    read-due-requires
     enum-known-x-2
     enum-known-q2
     column-place-requires

@@ -24,8 +24,8 @@ abbrev μ-loop : tie.MeasureT-loop
 loop-holds : tie.Need-loop-holds Inv-loop μ-loop
 loop-holds c = (omega arith, refl, began _ _ _ _ _ _)
 
-read-requires : tie.Need-read-requires Inv-loop μ-loop
-read-requires c κs = search needs
+read-shift-requires : tie.Need-read-shift-requires Inv-loop μ-loop
+read-shift-requires c κs = search needs
 
 enum-known-x : tie.Need-enum-known-x Inv-loop μ-loop
 enum-known-x c = search needs
@@ -37,7 +37,7 @@ returns : tie.Need-returns Inv-loop μ-loop
 returns c =
     let c₄ = c .before .before .before .before in
     let c₅ = c₄ .before in
-    stopped (c₅ .loop .inv .2) (c₄ .loop-test .taken) (shift-off _ _ _ (c .before .before .before .read .ensures) (c .before .x .given .1))
+    stopped (c₅ .loop .inv .2) (c₄ .loop-test .taken) (shift-off _ _ _ (c .before .before .before .read-shift .ensures) (c .before .x .given .1))
 
 enum-known-v : tie.Need-enum-known-v Inv-loop μ-loop
 enum-known-v c = search needs
@@ -45,10 +45,10 @@ enum-known-v c = search needs
 signed16-requires : tie.Need-signed16-requires Inv-loop μ-loop
 signed16-requires c κs =
     let c₆ = c .before .before .before .before .before .before in
-    two-bytes _ _ _ (λ k. omega (arith, c₆ .shared-slice-known .given k)) (c .before .before .before .read .ensures) (c .before .v .given .1)
+    two-bytes _ _ _ (λ k. omega (arith, c₆ .shared-slice-known .given k)) (c .before .before .before .read-shift .ensures) (c .before .v .given .1)
 
-mul-t14 : tie.Need-mul-t14 Inv-loop μ-loop
-mul-t14 c = search needs
+mul-t13 : tie.Need-mul-t13 Inv-loop μ-loop
+mul-t13 c = search needs
 
 slice-set-from-out : tie.Need-slice-set-from-out Inv-loop μ-loop
 slice-set-from-out c = search needs
@@ -68,7 +68,7 @@ loop-again c =
       omega arith,
       simp length-set (loop .inv .1),
       went-on (loop .inv .2) (c₅ .loop-test .taken)
-          (shift-on _ _ _ (c₄ .read .ensures) (c .before .before .v .given .1) (toZ-ofZ {w = w32} (record { sfits = c .signed16 .ok }) ∙ c .signed16 .ensures)),
+          (shift-on _ _ _ (c₄ .read-shift .ensures) (c .before .before .v .given .1) (toZ-ofZ {w = w32} (record { sfits = c .signed16 .ok }) ∙ c .signed16 .ensures)),
     )
 
 same-length-2 : tie.Need-same-length-2 Inv-loop μ-loop
@@ -84,13 +84,13 @@ shift-list-spec =
     Inv-loop
     μ-loop
     loop-holds
-    read-requires
+    read-shift-requires
     enum-known-x
     same-length
     returns
     enum-known-v
     signed16-requires
-    mul-t14
+    mul-t13
     slice-set-from-out
     add-i
     loop-less

@@ -1,18 +1,15 @@
 -- `reader::runs::run` meets its contract. The loop's invariant: what is still to be read, stored into what stands there by now, is the whole
 -- work (`Kept`). The measure is how much is left. Assumes nothing.
-use mathlib.Core.Path.{_≡_, refl, ap, _∙_}
-use Prim.Native.Nat.{ℕ, _-_, _≤_}
+use mathlib.Core.Path.{_≡_, refl}
+use Prim.Native.Nat.{_-_, _≤_}
 use native.Mathlib.Omega.{arith}
 use lib.ListN.{length, length-set}
 use borrow.Author.Needs.{needs}
-use Rattle.rules.specs.Reader.{Reader, field}
+use Rattle.rules.specs.Reader.{field}
 use Rattle.rules.specs.Files.{coefficient-test}
-use Rattle.cursor.specs.declared.Test.{Test}
 use Rattle.reader.specs.Flat.{put-from}
 use Rattle.reader.specs.Storing.{Kept, began, stopped, went-on, ended, field-off, field-on}
-use Rattle.cursor.specs.Fields.{coefficient-field}
-use Rattle.cursor.specs.Tests.{width-of, code-of}
-use Rattle.place.specs.Places.{place, taken}
+use Rattle.place.specs.Places.{place}
 use Rattle.reader.proofs.runs.run.Statement.{statement}
 use Rattle.reader.proofs.runs.run.Tie as tie
 
@@ -25,29 +22,11 @@ Inv-loop s p count last out₀ base here₀ k₀ out here k =
 abbrev μ-loop : tie.MeasureT-loop
 μ-loop s p count last out₀ base here₀ k₀ out here k = count - k
 
--- What `read` gives is the rules' field at the present place.
-field-read : (c : tie.After-read Inv-loop μ-loop)
-    → let loop = c .before .before .before .loop in
-    let args = c .before .before .before .before .before .before .args in
-    taken (c .read .result) ≡ field 4 (coefficient-test (args .p) (args .last) (loop .k)) (args .s .now) (place (loop .here))
-field-read c =
-    let loop = c .before .before .before .loop in
-    let args = c .before .before .before .before .before .before .args in
-    c .read .ensures
-    ∙ ap (λ (t : Test). field (width-of t) (code-of t (args .p) 0) (args .s .now) (place (loop .here))) (c .before .coefficient .ensures)
-    ∙ ap (λ (r : Reader ℕ). r (args .s .now) (place (loop .here))) (coefficient-field (args .p) (args .last) (loop .k))
-
 loop-holds : tie.Need-loop-holds Inv-loop μ-loop
 loop-holds c = (omega arith, refl, began _ _ _ _ _ _)
 
-add-coefficient : tie.Need-add-coefficient Inv-loop μ-loop
-add-coefficient c = search needs
-
-coefficient-requires : tie.Need-coefficient-requires Inv-loop μ-loop
-coefficient-requires c κs = search needs
-
-read-requires : tie.Need-read-requires Inv-loop μ-loop
-read-requires c κs = search needs
+read-coefficient-requires : tie.Need-read-coefficient-requires Inv-loop μ-loop
+read-coefficient-requires c κs = omega arith
 
 enum-known-x : tie.Need-enum-known-x Inv-loop μ-loop
 enum-known-x c = search needs
@@ -57,9 +36,8 @@ same-length c = search needs
 
 returns : tie.Need-returns Inv-loop μ-loop
 returns c =
-    let c₅ = c .before .before .before .before .before in
-    let c₆ = c₅ .before in
-    stopped (c₆ .loop .inv .2) (c₅ .loop-test .taken) (field-off _ (field-read (c .before .before .before)) (c .before .x .given .1))
+    let c₄ = c .before .before .before .before in
+    stopped (c₄ .before .loop .inv .2) (c₄ .loop-test .taken) (field-off _ (c .before .before .before .read-coefficient .ensures) (c .before .x .given .1))
 
 enum-known-v : tie.Need-enum-known-v Inv-loop μ-loop
 enum-known-v c = search needs
@@ -81,12 +59,11 @@ loop-less c = search needs
 
 loop-again : tie.Need-loop-again Inv-loop μ-loop
 loop-again c =
-    let c₅ = c .before .before .before .before .before in
-    let c₆ = c₅ .before in
-    let loop = c₆ .loop in (
+    let c₄ = c .before .before .before .before in
+    let loop = c₄ .before .loop in (
       omega arith,
       simp length-set (loop .inv .1),
-      went-on (loop .inv .2) (c₅ .loop-test .taken) (field-on _ (field-read (c .before .before .before)) (c .before .v .given .1)),
+      went-on (loop .inv .2) (c₄ .loop-test .taken) (field-on _ (c .before .before .before .read-coefficient .ensures) (c .before .v .given .1)),
     )
 
 same-length-2 : tie.Need-same-length-2 Inv-loop μ-loop
@@ -102,9 +79,7 @@ run-spec =
     Inv-loop
     μ-loop
     loop-holds
-    add-coefficient
-    coefficient-requires
-    read-requires
+    read-coefficient-requires
     enum-known-x
     same-length
     returns

@@ -1,13 +1,13 @@
--- `cursor::whole` meets its contract. Assumes nothing.
+-- `number::whole` meets its contract. Assumes nothing.
 use mathlib.Core.Path.{sym}
 use Prim.Native.Nat.{_+_, _<_}
 use native.Mathlib.Omega.{arith}
 use lib.ListN.{length}
 use borrow.Author.Needs.{needs}
 use borrow.Author.Tests.{lt-leb}
-use Rattle.cursor.specs.Fields.{enough-past}
-use Rattle.cursor.proofs.whole.Statement.{statement}
-use Rattle.cursor.proofs.whole.Tie as tie
+use Rattle.number.specs.Widths.{enough-past}
+use Rattle.number.proofs.whole.Statement.{statement}
+use Rattle.number.proofs.whole.Tie as tie
 
 returns : tie.Need-returns
 returns c =

@@ -1,12 +1,12 @@
--- `cursor::number` meets its contract. Assumes nothing.
+-- `number::joined` meets its contract. Assumes nothing.
 use mathlib.Core.Path.{sym, ap, _∙_}
 use Prim.Native.Nat.{ℕ}
 use native.Mathlib.Omega.{arith}
 use borrow.Author.Needs.{needs}
 use Rattle.rules.specs.Reader.{number-at}
-use Rattle.cursor.specs.Fields.{width-four, number-of-1, number-of-2, number-of-4}
-use Rattle.cursor.proofs.number.Statement.{statement}
-use Rattle.cursor.proofs.number.Tie as tie
+use Rattle.number.specs.Widths.{width-four, number-of-1, number-of-2, number-of-4}
+use Rattle.number.proofs.joined.Statement.{statement}
+use Rattle.number.proofs.joined.Tie as tie
 
 shared-slice-read-wide : tie.Need-shared-slice-read-wide
 shared-slice-read-wide c = omega arith
@@ -79,8 +79,8 @@ returns-3 c =
     c .join4 .ensures
     ∙ sym (ap (λ (k : ℕ). number-at k (args .s .now) (args .at)) (width-four _ (c₈ .pre .0) (c₆ .if1 .left) (c₅ .if2 .left)) ∙ number-of-4 _ _)
 
-pub number-spec : {M : Type 1} → statement M
-number-spec =
+pub joined-spec : {M : Type 1} → statement M
+joined-spec =
     tie.close
     (tie.spec
     shared-slice-read-wide
