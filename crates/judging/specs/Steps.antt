@@ -15,9 +15,10 @@ use Rattle.verdict.specs.Meant.{refusal-of}
 use Rattle.claim.specs.declared.Head.{Head}
 use Rattle.claim.specs.Claims.{problem-of, claim-of}
 use Rattle.claim.specs.Sound.{Sound}
-use Rattle.reader.specs.declared.ReadProblem.{ReadProblem}
-use Rattle.reader.specs.declared.ReadAnswer.{ReadAnswer}
-use Rattle.reader.specs.Values.{problem-value, answer-value, read-answer}
+use Rattle.problem_file.specs.declared.ReadProblem.{ReadProblem}
+use Rattle.answer_file.specs.declared.ReadAnswer.{ReadAnswer}
+use Rattle.problem_file.specs.Values.{problem-value}
+use Rattle.answer_file.specs.Values.{answer-value, read-answer}
 use Rattle.reader.specs.Readings.{problem-off, problem-read, problem-head, problem-columns, answer-off, answer-read, answer-basis, answer-constants}
 
 module _ (s t : List ℕ) {x : ReadProblem} (e : x ≡ problem-value (read-problem s)) where

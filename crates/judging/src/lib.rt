@@ -2,11 +2,11 @@
 ghost use mathlib.Core.Path.{_≡_};
 ghost use Rattle.rules.specs.Verdict.{verdict};
 ghost use Rattle.verdict.specs.Meant.{meant};
+use answer_file::read_answer_into;
 use conditions::conditions;
 use layout::no_columns;
 use layout::no_entries;
-use reader::read_answer_into;
-use reader::read_problem_into;
+use problem_file::read_problem_into;
 use verdict::Verdict;
 
 // problem, answer: the two files.

@@ -22,9 +22,10 @@ use Rattle.verdict.specs.Meant.{refusal-of}
 use Rattle.claim.specs.declared.Head.{Head}
 use Rattle.claim.specs.Claims.{problem-of, basis-of}
 use Rattle.claim.specs.Sound.{SoundBasis}
-use Rattle.reader.specs.declared.ReadProblem.{ReadProblem}
-use Rattle.reader.specs.declared.ReadAnswer.{ReadAnswer}
-use Rattle.reader.specs.Values.{problem-value, answer-value, read-answer}
+use Rattle.problem_file.specs.declared.ReadProblem.{ReadProblem}
+use Rattle.answer_file.specs.declared.ReadAnswer.{ReadAnswer}
+use Rattle.problem_file.specs.Values.{problem-value}
+use Rattle.answer_file.specs.Values.{answer-value, read-answer}
 use Rattle.reader.specs.Readings.{after, problem-off, problem-read, basis-off, basis-read, basis-sound}
 use Rattle.writer.specs.Appended.{Appended, appended-nothing, appended-unique}
 

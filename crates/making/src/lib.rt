@@ -2,12 +2,12 @@
 ghost use mathlib.Core.Path.{_≡_};
 ghost use Rattle.rules.specs.Evidence.{make-evidence};
 ghost use Rattle.verdict.specs.Replies.{reply-meant};
+use answer_file::read_answer_into;
 use evidence::put_evidence;
 use layout::RECORD;
 use layout::no_columns;
 use layout::no_entries;
-use reader::read_answer_into;
-use reader::read_problem_into;
+use problem_file::read_problem_into;
 use verdict::Reply;
 use writer::put_text;
 

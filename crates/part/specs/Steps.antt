@@ -35,9 +35,9 @@ use Rattle.laws.specs.PartLaws.{pointed-refused, pointed-claim, front-of-answer
 use Rattle.layout.specs.Holds.{Ordered}
 use Rattle.laws.specs.SumLaws.{sum-below-cong}
 use Rattle.laws.specs.WriterLaws.{rectangle-most}
-use Rattle.reader.specs.declared.ReadProblem.{ReadProblem}
-use Rattle.reader.specs.Arrays.{list-at}
-use Rattle.reader.specs.Values.{problem-value}
+use Rattle.problem_file.specs.declared.ReadProblem.{ReadProblem}
+use Rattle.storing.specs.Arrays.{list-at}
+use Rattle.problem_file.specs.Values.{problem-value}
 use Rattle.part.specs.Parts.{PartIn, HasColumn, ColumnPart, start-of}
 
 -- Equal numbers make equal parts.

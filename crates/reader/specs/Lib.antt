@@ -1,11 +1,2 @@
-pub mod Head
-pub mod Storing
-pub mod Flat
-pub mod Shifts
-pub mod Extent
-pub mod Records
-pub mod Values
-pub mod Poured
-pub mod Arrays
 pub mod Stands
 pub mod Readings

@@ -18,10 +18,11 @@ use Rattle.layout.specs.Holds.{Each}
 use Rattle.claim.specs.declared.Head.{Head}
 use Rattle.claim.specs.Claims.{problem-of, basis-of, answer-of}
 use Rattle.claim.specs.Sound.{SoundHead, SoundColumns, SoundBasis}
-use Rattle.reader.specs.declared.ReadProblem.{ReadProblem}
-use Rattle.reader.specs.declared.ReadAnswer.{ReadAnswer}
-use Rattle.reader.specs.Storing.{into, into-refused}
-use Rattle.reader.specs.Values.{problem-value, answer-value, read-answer, without-evidence}
+use Rattle.problem_file.specs.declared.ReadProblem.{ReadProblem}
+use Rattle.answer_file.specs.declared.ReadAnswer.{ReadAnswer}
+use Rattle.storing.specs.Storing.{into, into-refused}
+use Rattle.problem_file.specs.Values.{problem-value}
+use Rattle.answer_file.specs.Values.{answer-value, read-answer, without-evidence}
 use Rattle.reader.specs.Stands.{problem-stands, sound-head-of, sound-columns-of, basis-stands, entries-below, entries-padded, constants-stands, constants-below}
 
 -- The place after what was read.

@@ -21,9 +21,10 @@ use Rattle.layout.specs.Flat.{square-place, length-at, shift-at, cell, column-c
 use Rattle.layout.specs.Holds.{Each, Padded}
 use Rattle.claim.specs.Claims.{orders-of, shifts-of, columns-of, problem-of, basis-of, constants-of}
 use Rattle.claim.specs.Sound.{SoundHead, SoundColumns}
-use Rattle.reader.specs.Poured.{All, all-of}
-use Rattle.reader.specs.Arrays.{list-at, shifts-at, columns-at, entries-at, lengths-at, evidence-at, every-column, every-entry, every-length, every-constant}
-use Rattle.reader.specs.Values.{head-value, columns-value, lengths-value, entries-value, constants-value}
+use Rattle.storing.specs.Poured.{All, all-of}
+use Rattle.storing.specs.Arrays.{list-at, shifts-at, columns-at, entries-at, lengths-at, evidence-at, every-column, every-entry, every-length, every-constant}
+use Rattle.problem_file.specs.Values.{head-value, columns-value}
+use Rattle.answer_file.specs.Values.{lengths-value, entries-value, constants-value}
 
 -- A number that is looked up below a bound, and is 0 from there on.
 bounded : (n k v w : ℕ) → (k < n → v ≡ w) → (n ≤ k → w ≡ 0) → cond (ltb k n) v 0 ≡ w

@@ -1,0 +1,13 @@
+-- `problem_file::no_shifts` meets its contract. Assumes nothing.
+use mathlib.Core.Path.{refl}
+use Rattle.rules.specs.Sizes.{most-rows}
+use Rattle.layout.specs.Flat.{filled}
+use Rattle.problem_file.proofs.no_shifts.Statement.{statement}
+use Rattle.problem_file.proofs.no_shifts.Tie as tie
+
+returns : tie.Need-returns
+unfolding filled most-rows
+returns c = refl
+
+pub no-shifts-spec : {M : Type 1} → statement M
+no-shifts-spec = tie.close (tie.spec returns)
