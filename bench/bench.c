@@ -7,6 +7,7 @@
  * ratio is the median of the rounds' ratios.
  */
 #include "board.h"
+#include "drawn.h"
 #include "inverse.h"
 #include "judges.h"
 #include "maker.h"
@@ -175,6 +176,17 @@ static void print_inverse(const char *name, judge_function *call)
         printf("one inverse beyond that of 1, %s, p = %" PRIu32 ": %.1f ns\n", name, primes[i], time_inverse(call, primes[i]));
 }
 
+static void print_drawn(struct files *const *files)
+{
+    struct drawn_times times = time_drawn();
+    printf("largest, without reading: the conditions on the product %.3f us, by drawn numbers %.3f us, drawn/product %.3f\n", times.product,
+           times.drawn, times.ratio);
+    printf("one call of judge_drawn:");
+    for (int b = 0; b < BUNDLES; b++)
+        printf(" %s %.3f us", bundles[b].name, time_judge_drawn(files[b], bundles[b].claims, bundles[b].repeats));
+    printf("\n");
+}
+
 static struct files *make_bundle(const struct bundle *bundle)
 {
     struct files *files = malloc((size_t)bundle->claims * sizeof *files);
@@ -208,8 +220,10 @@ int main(void)
     for (int b = 0; b < BUNDLES; b++)
         print_times(&bundles[b], files[b]);
     struct peak peak = peak_stack();
-    printf("peak stack of one call: judge %zu bytes, make_evidence %zu bytes\n", peak.judge, peak.make_evidence);
+    printf("peak stack of one call: judge %zu bytes, make_evidence %zu bytes, judge_drawn %zu bytes\n", peak.judge, peak.make_evidence,
+           peak.judge_drawn);
     print_reading();
+    print_drawn(files);
     print_inverse("board", judge);
 #ifdef WITH_EARLIER
     print_inverse("earlier", earlier_judge);

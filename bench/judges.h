@@ -11,6 +11,9 @@ uint64_t plain_judge(const uint8_t *problem, size_t problem_len, const uint8_t *
 uint64_t plain_make_evidence(const uint8_t *problem, size_t problem_len, const uint8_t *answer, size_t answer_len, uint8_t *buffer,
                              size_t buffer_len);
 
+uint64_t plain_judge_drawn(const uint8_t *problem, size_t problem_len, const uint8_t *answer, size_t answer_len, const uint32_t *u,
+                           uint32_t point);
+
 uint64_t flint_judge(const uint8_t *problem, size_t problem_len, const uint8_t *answer, size_t answer_len);
 
 /* The board of an earlier state. */

@@ -7,6 +7,7 @@
 struct peak {
     size_t judge;
     size_t make_evidence;
+    size_t judge_drawn;
 };
 
 struct peak peak_stack(void);

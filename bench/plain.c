@@ -264,3 +264,36 @@ uint64_t plain_make_evidence(const uint8_t *problem, size_t problem_len, const u
         }
     return packed(0, 0, 0, needed);
 }
+
+/* The value at the point of a column of the product, cut at its order, its rows combined by u, less C's at the order. */
+static uint32_t drawn_value(const struct claim *c, const uint32_t *u, uint32_t point, int j)
+{
+    uint64_t value = 0;
+    for (int k = c->order[j]; k >= 0; k--) {
+        uint64_t sum = value * point % c->p;
+        for (int i = 0; i < c->m; i++) {
+            uint64_t entry = product_at(c, i, j, k);
+            if (k == c->order[j])
+                entry += c->p - c->evidence[i][j];
+            sum = (sum + u[i] * (entry % c->p)) % c->p;
+        }
+        value = sum;
+    }
+    return (uint32_t)value;
+}
+
+uint64_t plain_judge_drawn(const uint8_t *problem, size_t problem_len, const uint8_t *answer, size_t answer_len, const uint32_t *u,
+                           uint32_t point)
+{
+    struct claim c;
+    uint64_t refusal = read_claim(&c, problem, problem_len, answer, answer_len, true, is_prime);
+    if (refusal != 0)
+        return refusal;
+    for (int i = 0; i <= c.m; i++)
+        if ((i < c.m ? u[i] : point) >= c.p)
+            return packed(16, 2, 0, (size_t)i);
+    for (int j = 0; j < c.n; j++)
+        if (drawn_value(&c, u, point, j) != 0)
+            return packed(255, 0, 0, 0);
+    return 0;
+}

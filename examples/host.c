@@ -1,8 +1,9 @@
 /*
- * A host for the board: judges two files, or makes the evidence for an answer that has none yet.
+ * A host for the board: judges two files, makes the evidence for an answer that has none yet, or tests an answer with drawn numbers.
  *
  *     host PROBLEM ANSWER                 prints `pass D`, or `refuse CODE FILE RECORD AT`
  *     host --evidence PROBLEM ANSWER      prints `evidence CODE FILE RECORD AT` and, where it was made, the record's bytes in hex
+ *     host --drawn U... POINT PROBLEM ANSWER      prints `drawn CODE FILE RECORD AT`, for at most four numbers u and a point
  *
  * A file that can't be opened gives `nofile 0` (the problem, tried first) or `nofile 1` (the answer). So does one that isn't named, and
  * one that can't be read, such as a folder. The exit status is 0 after code 0, 1 after a refusal and 2 after `nofile`.
@@ -15,6 +16,7 @@
 #include <inttypes.h>
 #include <stdbool.h>
 #include <stdio.h>
+#include <stdlib.h>
 #include <string.h>
 
 /* More than the longest file. A longer one is refused for the bytes that follow its last record, so the rest of it changes nothing. */
@@ -65,11 +67,25 @@ static int print_evidence(const struct file *problem, const struct file *answer)
     return made ? 0 : 1;
 }
 
+/* The numbers are the words: some of u, the rest of which is 0, and the point. */
+static int print_drawn(char **words, int count, const struct file *problem, const struct file *answer)
+{
+    uint32_t u[BOARD_DRAWN] = {0};
+    for (int i = 0; i < count - 1 && i < BOARD_DRAWN; i++)
+        u[i] = (uint32_t)strtoul(words[i], NULL, 10);
+    uint32_t point = (uint32_t)strtoul(words[count - 1], NULL, 10);
+    uint64_t drawn = judge_drawn(problem->bytes, problem->length, answer->bytes, answer->length, u, point);
+    print_numbers("drawn", drawn);
+    printf("\n");
+    return board_code(drawn) == BOARD_PASS ? 0 : 1;
+}
+
 int main(int argc, char **argv)
 {
     static struct file problem, answer;
     bool evidence = argc > 1 && strcmp(argv[1], "--evidence") == 0;
-    int first = evidence ? 2 : 1;
+    bool drawn = argc > 5 && strcmp(argv[1], "--drawn") == 0;
+    int first = evidence ? 2 : drawn ? argc - 2 : 1;
     if (!read_file(argc > first ? argv[first] : NULL, &problem)) {
         printf("nofile 0\n");
         return 2;
@@ -78,5 +94,7 @@ int main(int argc, char **argv)
         printf("nofile 1\n");
         return 2;
     }
+    if (drawn)
+        return print_drawn(argv + 2, argc - 4, &problem, &answer);
     return evidence ? print_evidence(&problem, &answer) : print_verdict(&problem, &answer);
 }

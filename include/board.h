@@ -1,7 +1,7 @@
 /*
  * The acceptance board, for a host that is written in C or C++.
  *
- * Link with libboard.a. Every verdict is one 64-bit number that packs four:
+ * Link with libboard.a. Every answer is one 64-bit number that packs four:
  *
  *     code + 256 * file + 65536 * record + 4294967296 * at
  *
@@ -13,9 +13,11 @@
  *     9, 10, 13   0                       0                    0
  *     11, 12      2                       row, from 0          column, from 0
  *     14          0                       0                    bytes needed
+ *     16          2                       0                    judge_drawn: the number's place, u from 0, the point m
+ *     255         0                       0                    judge_drawn: 0, and it is no verdict
  *
- * In both functions:
- * - the files are only read, and bytes outside the lengths given are neither read nor written;
+ * In every function:
+ * - the files, and the numbers of u, are only read, and bytes outside the lengths given are neither read nor written;
  * - a length may be 0, the pointer is never NULL;
  * - nothing is kept between calls and no memory is asked for, so that calls from several threads do not meet.
  *
@@ -47,11 +49,16 @@ enum board_verdict {
     BOARD_PRODUCT = 11,     /* P times F has a coefficient other than 0 below the order */
     BOARD_EVIDENCE = 12,    /* the evidence C differs from the coefficient of P times F at the order */
     BOARD_RANK = 13,        /* the rank of P(0) with C beside it is too low: P generates too little */
-    BOARD_BUFFER = 14       /* make_evidence only: the buffer is too short, `at` has the bytes needed */
+    BOARD_BUFFER = 14,      /* make_evidence only: the buffer is too short, `at` has the bytes needed */
+    BOARD_DRAWN_LARGE = 16, /* judge_drawn only: a drawn number is p or more */
+    BOARD_TURNED_AWAY = 255 /* judge_drawn only, and no verdict: P times F has a fault of 11 or 12 */
 };
 
 /* The most bytes that make_evidence writes: a buffer of this length is never too short. */
 #define BOARD_EVIDENCE_MOST 66
+
+/* The numbers of u in judge_drawn. */
+#define BOARD_DRAWN 4
 
 /* Judges an answer to a problem, both as whole files in memory, and returns the verdict. */
 uint64_t judge(const uint8_t *problem, size_t problem_len, const uint8_t *answer, size_t answer_len);
@@ -63,6 +70,14 @@ uint64_t judge(const uint8_t *problem, size_t problem_len, const uint8_t *answer
  */
 uint64_t make_evidence(const uint8_t *problem, size_t problem_len, const uint8_t *answer, size_t answer_len, uint8_t *buffer,
                        size_t buffer_len);
+
+/*
+ * Tests the product of an answer to a problem with drawn numbers, faster than the judge: u, of which those from m on aren't read, and a point,
+ * all of them below p. Code 0, "may pass": no fault of 11 or 12 was seen. That is NOT a pass: other numbers may show one, and nothing else is
+ * looked at. Code 255, "turned away": there is a fault of 11 or 12. An answer without such a fault is never turned away; with one, for a u that
+ * shows it, at most 16 of the p points give code 0. Otherwise codes 1 to 8 and then 16; the verdict is the judge's alone.
+ */
+uint64_t judge_drawn(const uint8_t *problem, size_t problem_len, const uint8_t *answer, size_t answer_len, const uint32_t *u, uint32_t point);
 
 /* What was found: a number of `enum board_verdict`. */
 static inline unsigned board_code(uint64_t verdict)

@@ -2,6 +2,7 @@
 //! of cases for the test program `cases`.
 
 mod claim;
+mod drawn;
 mod field;
 mod make;
 mod plain;
@@ -21,6 +22,9 @@ const USAGE: &str = "usage:
   second expect BUNDLE
   second check BUNDLE OUTPUT
   second counts BUNDLE
+  second draw --seed S --count N --out DRAWINGS
+  second drawn DRAWINGS
+  second check-drawn DRAWINGS OUTPUT
   second selftest";
 
 /// A bundle, case by case.
@@ -98,24 +102,36 @@ fn walk(name: &str, mut each: impl FnMut(usize, Result<verdict::Said, String>) -
     }
 }
 
-fn make(arguments: &[String]) -> Result<(), String> {
-    let (mut seed, mut count, mut out, mut cut) = (1u64, 20_000u32, None, 0usize);
+struct Options {
+    seed: u64,
+    count: u32,
+    cut: usize,
+    out: String,
+}
+
+fn options(arguments: &[String]) -> Result<Options, String> {
+    let mut r = Options { seed: 1, count: 20_000, cut: 0, out: String::new() };
     let mut k = 0;
     while k + 1 < arguments.len() {
         let value = &arguments[k + 1];
         let bad = |e: std::num::ParseIntError| format!("{value}: {e}");
         match arguments[k].as_str() {
-            "--seed" => seed = value.parse().map_err(bad)?,
-            "--count" => count = value.parse().map_err(bad)?,
-            "--cut" => cut = value.parse().map_err(bad)?,
-            "--out" => out = Some(value.clone()),
+            "--seed" => r.seed = value.parse().map_err(bad)?,
+            "--count" => r.count = value.parse().map_err(bad)?,
+            "--cut" => r.cut = value.parse().map_err(bad)?,
+            "--out" => r.out = value.clone(),
             _ => return Err(USAGE.into()),
         }
         k += 2;
     }
-    let Some(out) = out else {
+    if r.out.is_empty() {
         return Err(USAGE.into());
-    };
+    }
+    Ok(r)
+}
+
+fn make(arguments: &[String]) -> Result<(), String> {
+    let Options { seed, count, cut, out } = options(arguments)?;
     let mut bytes = count.to_le_bytes().to_vec();
     let file = std::fs::File::create(&out).map_err(|e| format!("{out}: {e}"))?;
     let mut file = BufWriter::new(file);
@@ -270,6 +286,104 @@ fn counts(name: &str) -> Result<(), String> {
     Ok(())
 }
 
+/// Claims with numbers drawn for them: the two lengths, u and the point, then
+/// the two files.
+fn draw(arguments: &[String]) -> Result<(), String> {
+    let Options { seed, count, out, .. } = options(arguments)?;
+    let mut drawer = drawn::Drawer::new(seed);
+    let mut bytes = count.to_le_bytes().to_vec();
+    for _ in 0..count {
+        let d = drawer.next();
+        let lengths = [d.problem.len() as u32, d.answer.len() as u32];
+        for n in lengths.iter().chain(&d.u).chain([&d.point]) {
+            bytes.extend(n.to_le_bytes());
+        }
+        bytes.extend(&d.problem);
+        bytes.extend(&d.answer);
+    }
+    println!("{count} drawings of seed {seed}, {} bytes", bytes.len());
+    std::fs::write(&out, bytes).map_err(|e| format!("{out}: {e}"))
+}
+
+/// The next of them; nothing where the bytes end before it does.
+fn next_drawing(bundle: &mut Bundle) -> Option<drawn::Drawing> {
+    let (a, b) = (bundle.number()? as usize, bundle.number()? as usize);
+    let mut u = [0; ROWS];
+    for x in u.iter_mut() {
+        *x = bundle.number()?;
+    }
+    let point = bundle.number()?;
+    let from = bundle.place;
+    bundle.place += a + b;
+    let files = bundle.bytes.get(from..bundle.place)?;
+    Some(drawn::Drawing { problem: files[..a].to_vec(), answer: files[a..].to_vec(), u, point })
+}
+
+fn drawings(name: &str) -> Result<Vec<drawn::Drawing>, String> {
+    let mut bundle = Bundle::open(name)?;
+    let whole = bundle.start();
+    let all: Option<Vec<_>> = (0..bundle.left).map(|_| next_drawing(&mut bundle)).collect();
+    all.filter(|_| whole).ok_or(format!("{name}: cut"))
+}
+
+fn drawn_line(d: &drawn::Drawing) -> Result<String, String> {
+    let [code, file, record, at] = drawn::say(d)?;
+    Ok(format!("drawn {code} {file} {record} {at}"))
+}
+
+fn expect_drawn(name: &str) -> Result<(), String> {
+    let mut out = BufWriter::new(std::io::stdout().lock());
+    for d in drawings(name)? {
+        writeln!(out, "{}", drawn_line(&d)?).map_err(|e| e.to_string())?;
+    }
+    out.flush().map_err(|e| e.to_string())
+}
+
+/// Compares an output line by line; and wherever every point was drawn for a
+/// claim and a u, counts in the output the points that gave "may pass" and
+/// compares that with the most there may be.
+fn check_drawn(name: &str, output: &str) -> Result<bool, String> {
+    let text = std::fs::read_to_string(output).map_err(|e| format!("{output}: {e}"))?;
+    let lines: Vec<&str> = text.lines().collect();
+    let all = drawings(name)?;
+    let (mut passed, mut failed, mut sweeps, mut spoilt, mut most) = (0u64, (lines.len() != all.len()) as u64, 0, 0, 0);
+    let [code, file, record, at] = drawn::MAY_PASS;
+    let may_pass = format!("drawn {code} {file} {record} {at}");
+    let mut begun = 0;
+    for (k, d) in all.iter().enumerate() {
+        let due = drawn_line(d)?;
+        if lines.get(k) == Some(&due.as_str()) {
+            passed += 1;
+        } else {
+            failed += 1;
+            println!("drawing {k}: due {due}, got {:?}", lines.get(k));
+        }
+        let first = &all[begun];
+        let same = (&d.problem, &d.answer, d.u) == (&first.problem, &first.answer, first.u);
+        if !same || d.point as usize != k - begun {
+            begun = k;
+        }
+        let Some((p, bound)) = drawn::most_points(d).filter(|(p, _)| d.point as u64 + 1 == *p && k - begun + 1 == *p as usize) else {
+            continue;
+        };
+        let through = (begun..=k).filter(|k| lines.get(*k) == Some(&may_pass.as_str())).count() as u64;
+        sweeps += 1;
+        if bound < p {
+            spoilt += 1;
+            most = most.max(through);
+        }
+        if through <= bound {
+            passed += 1;
+        } else {
+            failed += 1;
+            println!("drawings {begun} to {k}: {through} points of {p} may pass, and there may be {bound}");
+        }
+    }
+    println!("{sweeps} times every point; of a row that is not zero, {spoilt} times, at most {most} may pass");
+    println!("{passed} passed, {failed} failed");
+    Ok(failed == 0 && spoilt > 0)
+}
+
 fn main() -> ExitCode {
     let arguments: Vec<String> = std::env::args().skip(1).collect();
     let names: Vec<&str> = arguments.iter().map(|s| s.as_str()).collect();
@@ -278,6 +392,9 @@ fn main() -> ExitCode {
         ["expect", bundle] => expect(bundle).map(|_| true),
         ["check", bundle, output] => check(bundle, output),
         ["counts", bundle] => counts(bundle).map(|_| true),
+        ["draw", ..] => draw(&arguments[1..]).map(|_| true),
+        ["drawn", drawings] => expect_drawn(drawings).map(|_| true),
+        ["check-drawn", drawings, output] => check_drawn(drawings, output),
         ["selftest"] => Ok(selftest::run()),
         _ => Err(USAGE.into()),
     };

@@ -1,7 +1,7 @@
 /*
  * The archive as a C host sees it: document 01's worked cases, its example on disk with every variant, and one variant for each code,
- * the same that docs/OPERATOR.md shows; the identity for shifts that are far apart; and how deep a call goes into the stack. Each check
- * prints a line only if it fails; the last line is the tally.
+ * the same that docs/OPERATOR.md shows; the identity for shifts that are far apart; the example with numbers drawn for it; and how deep a call
+ * goes into the stack. Each check prints a line only if it fails; the last line is the tally.
  */
 #include "board.h"
 #include "files.h"
@@ -166,11 +166,47 @@ static void check_identity(int first_shift, int second_shift, const char *name)
     check_verdict(judge(f.problem, f.problem_len, f.answer, f.answer_len), BOARD_NOT_REDUCED, 0, 0, 0, name);
 }
 
+/* The example with C = (0, last), and a row u and a point drawn. With last = 0 the second row is cut to X^2. */
+static void check_drawing(uint8_t last, const uint32_t u[BOARD_DRAWN], uint32_t point, unsigned code, unsigned file, uint32_t at, const char *name)
+{
+    uint8_t a[ANSWER];
+    memcpy(a, answer, ANSWER);
+    a[ANSWER - 4] = last;
+    check_verdict(judge_drawn(problem, PROBLEM, a, ANSWER, u, point), code, file, 0, at, name);
+}
+
+static void check_drawings(void)
+{
+    static const struct {
+        uint8_t last;
+        uint32_t u[BOARD_DRAWN], point;
+        unsigned code, file;
+        uint32_t at;
+        const char *name;
+    } cases[] = {
+        {1, {1, 2, 0, 0}, 3, 0, 0, 0, "drawn: a true answer"},
+        {1, {6, 6, 0, 0}, 6, 0, 0, 0, "drawn: the largest numbers"},
+        {1, {0, 0, 0, 0}, 0, 0, 0, 0, "drawn: zeros"},
+        {1, {1, 2, 7, UINT32_MAX}, 3, 0, 0, 0, "drawn: u from m on isn't read"},
+        {0, {1, 2, 0, 0}, 3, BOARD_TURNED_AWAY, 0, 0, "drawn: a fault at the order"},
+        {0, {1, 0, 0, 0}, 3, 0, 0, 0, "drawn: a row that does not show it"},
+        {0, {1, 2, 0, 0}, 0, 0, 0, 0, "drawn: a point that does not show it"},
+        {1, {7, 7, 0, 0}, 7, BOARD_DRAWN_LARGE, 2, 0, "drawn: the first too large"},
+        {1, {6, 7, 0, 0}, 8, BOARD_DRAWN_LARGE, 2, 1, "drawn: the second too large"},
+        {1, {6, 6, 9, 9}, 7, BOARD_DRAWN_LARGE, 2, 2, "drawn: the point too large"},
+    };
+    for (size_t i = 0; i < sizeof cases / sizeof *cases; i++)
+        check_drawing(cases[i].last, cases[i].u, cases[i].point, cases[i].code, cases[i].file, cases[i].at, cases[i].name);
+    check_verdict(judge_drawn(problem, PROBLEM, answer, ANSWER - 1, cases[7].u, 7), 1, 1, 4, 54, "drawn: 1 to 8 before 16");
+    check_verdict(judge_drawn(problem, 0, answer, ANSWER, cases[7].u, 7), 1, 0, 0, 0, "drawn: problem empty");
+}
+
 static void check_stack(void)
 {
     struct peak peak = peak_stack();
     check(0 < peak.judge && peak.judge < MOST_STACK, "judge takes less than 64 KiB of stack");
     check(0 < peak.make_evidence && peak.make_evidence < MOST_STACK, "make_evidence takes less than 64 KiB of stack");
+    check(0 < peak.judge_drawn && peak.judge_drawn < MOST_STACK, "judge_drawn takes less than 64 KiB of stack");
 }
 
 int main(void)
@@ -186,6 +222,7 @@ int main(void)
     check_identity(0, 5, "identity, shifts 0, 5");
     check_identity(5, 0, "identity, shifts 5, 0");
     check_identity(-1000, 1000, "identity, shifts -1,000, 1,000");
+    check_drawings();
     check_stack();
     printf("%d passed, %d failed\n", passed, failed);
     return failed == 0 ? EXIT_SUCCESS : EXIT_FAILURE;

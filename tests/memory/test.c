@@ -1,11 +1,11 @@
 /*
- * The archive's reads and writes: every call gets its files and its buffer in rooms of exactly their sizes.
+ * The archive's reads and writes: every call gets its files, its buffer and its drawn row in rooms of exactly their sizes.
  *
  *     test pages FIRST COUNT     rooms between pages that may not be touched; what is left of the room's own page holds guard bytes
  *     test heap FIRST COUNT      rooms from malloc, to be run under valgrind
  *
  * The claims are those of bench/maker.h from number FIRST on, each as it is and with some bytes changed, and now and then cut at every
- * byte. Verdicts and evidence are held against the plain C version, and the files have to stay as they were.
+ * byte. Verdicts, evidence and the answers by drawn numbers are held against the plain C version, and the files have to stay as they were.
  */
 #define _DEFAULT_SOURCE
 #include "board.h"
@@ -26,7 +26,7 @@ struct room {
 };
 
 static bool heap;
-static struct room problem_room, answer_room, buffer_room;
+static struct room problem_room, answer_room, buffer_room, drawn_room;
 static uint64_t calls, failures, claim_number;
 
 static void open_room(struct room *room)
@@ -102,10 +102,26 @@ static void try_evidence(const struct files *f, size_t lent, bool front)
     check(holds(&problem_room, f->problem) && holds(&answer_room, f->answer) && holds(&buffer_room, due_bytes), "make_evidence", got, due);
 }
 
+/* u lies in a room of its own, of as many numbers as m may be at most. Some of the numbers are below no p. */
+static void try_drawn(const struct files *f, struct source *source, bool front)
+{
+    uint32_t u[BOARD_DRAWN], most = draw(source, 4) == 0 ? UINT32_MAX : 2 + draw(source, 3), point = draw(source, most);
+    for (int i = 0; i < BOARD_DRAWN; i++)
+        u[i] = draw(source, draw(source, 8) == 0 ? UINT32_MAX : most);
+    memcpy(lend(&problem_room, f->problem_len, front), f->problem, f->problem_len);
+    memcpy(lend(&answer_room, f->answer_len, front), f->answer, f->answer_len);
+    memcpy(lend(&drawn_room, sizeof u, front), u, sizeof u);
+    uint64_t got = judge_drawn(problem_room.bytes, f->problem_len, answer_room.bytes, f->answer_len, (uint32_t *)(void *)drawn_room.bytes, point);
+    uint64_t due = plain_judge_drawn(f->problem, f->problem_len, f->answer, f->answer_len, u, point);
+    bool kept = holds(&problem_room, f->problem) && holds(&answer_room, f->answer) && holds(&drawn_room, (const uint8_t *)u);
+    check(kept, "judge_drawn", got, due);
+}
+
 static void try_claim(const struct files *f, struct source *source)
 {
     bool front = draw(source, 2) == 0;
     try_judge(f, front);
+    try_drawn(f, source, front);
     try_evidence(f, MOST_LENT, front);
     try_evidence(f, draw(source, MOST_LENT + 1), front);
 }
@@ -140,6 +156,7 @@ int main(int argc, char **argv)
     open_room(&problem_room);
     open_room(&answer_room);
     open_room(&buffer_room);
+    open_room(&drawn_room);
     for (claim_number = first; claim_number < first + count; claim_number++) {
         struct files files;
         struct source source = {.state = ~claim_number};
@@ -154,6 +171,7 @@ int main(int argc, char **argv)
         free(problem_room.bytes);
         free(answer_room.bytes);
         free(buffer_room.bytes);
+        free(drawn_room.bytes);
     }
     printf("%s: %" PRIu64 " claims from number %" PRIu64 ", %" PRIu64 " calls, %" PRIu64 " failures\n", argv[1], count, first, calls, failures);
     return calls > 0 && failures == 0 ? EXIT_SUCCESS : EXIT_FAILURE;

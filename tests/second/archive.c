@@ -3,8 +3,9 @@
  * as the program `cases` spells them. The part that a verdict points at has no C entry and no line here.
  *
  *     archive BUNDLE
+ *     archive --drawn DRAWINGS      claims with a row u and a point drawn for each: a line with the four numbers of the answer
  *
- * The files of each case and the bytes lent are in memory of exactly their lengths. Exit status 1: the bundle can't be read or is cut.
+ * The files of each case, u and the bytes lent are in memory of exactly their lengths. Exit status 1: the bundle can't be read or is cut.
  */
 #include "board.h"
 
@@ -71,14 +72,35 @@ static bool run_case(FILE *bundle)
     return whole;
 }
 
+static bool run_drawing(FILE *bundle)
+{
+    uint32_t problem_len, answer_len, point, *u = (uint32_t *)(void *)room(BOARD_DRAWN * sizeof *u);
+    bool whole = read_number(bundle, &problem_len) && read_number(bundle, &answer_len);
+    for (int i = 0; i < BOARD_DRAWN; i++)
+        whole = whole && read_number(bundle, &u[i]);
+    whole = whole && read_number(bundle, &point);
+    if (!whole)
+        return false;
+    uint8_t *problem = room(problem_len), *answer = room(answer_len);
+    whole = fread(problem, 1, problem_len, bundle) == problem_len && fread(answer, 1, answer_len, bundle) == answer_len;
+    if (whole)
+        print_numbers("drawn", judge_drawn(problem, problem_len, answer, answer_len, u, point));
+    printf("\n");
+    free(problem);
+    free(answer);
+    free(u);
+    return whole;
+}
+
 int main(int argc, char **argv)
 {
-    FILE *bundle = argc == 2 ? fopen(argv[1], "rb") : NULL;
+    bool drawn = argc == 3 && strcmp(argv[1], "--drawn") == 0;
+    FILE *bundle = argc == 2 || drawn ? fopen(argv[argc - 1], "rb") : NULL;
     uint32_t count;
     if (bundle == NULL || !read_number(bundle, &count))
         return 1;
     for (uint32_t i = 0; i < count; i++)
-        if (!run_case(bundle))
+        if (!(drawn ? run_drawing(bundle) : run_case(bundle)))
             return 1;
     fclose(bundle);
     return 0;

@@ -5,9 +5,14 @@ use Rattle.board.proofs.judge.Kinds as judge-kinds
 use Rattle.board.proofs.judge.Reads as judge
 use Rattle.board.proofs.make_evidence.Kinds as make-evidence-kinds
 use Rattle.board.proofs.make_evidence.Reads as make-evidence
+use Rattle.board.proofs.judge_drawn.Kinds as judge-drawn-kinds
+use Rattle.board.proofs.judge_drawn.Reads as judge-drawn
 
 pub judge-unique : OneResult judge-kinds.ps judge-kinds.r judge.Asked judge.Learnt
 judge-unique κs a z z′ w w′ asked h h′ = (h ∙ sym h′, refl)
 
 pub make-evidence-unique : OneResult make-evidence-kinds.ps make-evidence-kinds.r make-evidence.Asked make-evidence.Learnt
 make-evidence-unique κs a z z′ w w′ asked h h′ = (h .0 ∙ sym (h′ .0), λ i. (tt, (tt, ((h .1 ∙ sym (h′ .1)) i, tt))))
+
+pub judge-drawn-unique : OneResult judge-drawn-kinds.ps judge-drawn-kinds.r judge-drawn.Asked judge-drawn.Learnt
+judge-drawn-unique κs a z z′ w w′ asked h h′ = (h ∙ sym h′, refl)

@@ -3,7 +3,11 @@ ghost use mathlib.Core.Path.{_≡_};
 ghost use Rattle.rules.specs.Verdict.{verdict, numbers, packed};
 ghost use Rattle.rules.specs.Reply.{reply-numbers};
 ghost use Rattle.rules.specs.Evidence.{make-evidence};
+ghost use Rattle.rules.specs.Drawn.{drawn-numbers, judge-drawn};
+use drawing::draw_files;
+use drawing::drawn_numbers;
 use judging::judge_files;
+use layout::ROWS;
 use making::evidence_files;
 use verdict::numbers;
 use verdict::pack;
@@ -24,4 +28,12 @@ pub extern "C" fn make_evidence(problem: &[u8], answer: &[u8], buffer: &mut [u8]
     ensures { λ r. ⌜ now (buffer .exit) ≡ make-evidence (now (problem .entry)) (now (answer .entry)) (now (buffer .entry)) .buffer ⌝ }
 {
     pack(reply_numbers(evidence_files(problem, answer, buffer)))
+}
+
+// The answer by a drawn row u and a drawn point. It is no verdict.
+#[no_mangle]
+pub extern "C" fn judge_drawn(problem: &[u8], answer: &[u8], u: &[u32; ROWS], point: u32) -> u64
+    ensures { λ r. ⌜ r ≡ packed (drawn-numbers (judge-drawn (now (problem .entry)) (now (answer .entry)) (now (u .entry)) point)) ⌝ }
+{
+    pack(drawn_numbers(draw_files(problem, answer, u, point)))
 }

@@ -4,6 +4,7 @@ pub mod Generating
 pub mod Verdicts
 pub mod Drawings
 pub mod DrawnMeaning
+pub mod DrawnUnread
 pub mod Meaning
 pub mod Least
 pub mod LeastDegrees
