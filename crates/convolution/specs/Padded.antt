@@ -57,7 +57,9 @@ module _ (P : ℕ → ℕ → Type 0) where
     long = length-set l (n + 2) x ∙ filled .long;
     front = λ i h. getD-set-other l (n + 2) i x 0 (omega arith) ∙ filled .front i h;
     middle = λ k h. elim (ℕ-discrete k n) [
-      | yes q ↦ subst (λ j. P j (getD (set l (n + 2) x) (j + 2) 0)) (sym q) (subst (P n) (sym (getD-set-same l (n + 2) x 0 (omega (arith, filled .long)))) holds)
+      | yes q ↦
+          let fits : n + 2 < length l = omega (arith, filled .long) in
+          subst (λ j. P j (getD (set l (n + 2) x) (j + 2) 0)) (sym q) (subst (P n) (sym (getD-set-same l (n + 2) x 0 fits)) holds)
       | no ne ↦ subst (P k) (sym (getD-set-other l (n + 2) (k + 2) x 0 (λ q. ne (omega arith)))) (filled .middle k (omega arith))
     ];
     back = λ i h. getD-set-other l (n + 2) i x 0 (omega arith) ∙ filled .back i (omega arith);
@@ -73,7 +75,8 @@ module _ (P : ℕ → ℕ → Type 0) where
   ]
 
   -- An array stands for the polynomial whose coefficients it was filled with, if there are no others.
-  pub filled-stands : {n : ℕ} {l : List ℕ} (p : ℕ) (f : ℕ → Residue p) → ((k x : ℕ) → P k x → red p x ≡ f k) → Below (K p) n f → Filled n P l → Stands p l f
+  pub filled-stands : {n : ℕ} {l : List ℕ} (p : ℕ) (f : ℕ → Residue p) → ((k x : ℕ) → P k x → red p x ≡ f k) → Below (K p) n f → Filled n P l
+      → Stands p l f
   unfolding shift
   filled-stands p f same below filled zero = ap (red p) (filled .front 0 (omega arith))
   filled-stands p f same below filled (suc zero) = ap (red p) (filled .front 1 (omega arith))

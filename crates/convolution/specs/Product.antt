@@ -45,7 +45,8 @@ module _ (p : ℕ) where
       ∙ three-added (K p) s s′ (triple p (getD e (d + 2) 0) (getD e (d + 3) 0) (getD e (d + 4) 0) l) (from d f) g d terms added i
     where
       terms : (k : ℕ)
-          → triple p (getD e (d + 2) 0) (getD e (d + 3) 0) (getD e (d + 4) 0) l k ≡ f (d + 0) ⊗ shift (K p) 2 g (suc (suc k)) ⊕ f (d + 1) ⊗ shift (K p) 2 g (suc k) ⊕ f (d + 2) ⊗ shift (K p) 2 g k
+          → triple p (getD e (d + 2) 0) (getD e (d + 3) 0) (getD e (d + 4) 0) l k
+          ≡ f (d + 0) ⊗ shift (K p) 2 g (suc (suc k)) ⊕ f (d + 1) ⊗ shift (K p) 2 g (suc k) ⊕ f (d + 2) ⊗ shift (K p) 2 g k
       terms k =
           triple-terms p (getD e (d + 2) 0) (getD e (d + 3) 0) (getD e (d + 4) 0) l g hl k
           ∙ ap₂ (λ u v. u ⊕ v ⊗ shift (K p) 2 g k)

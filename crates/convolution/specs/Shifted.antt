@@ -70,11 +70,13 @@ module _ (R : CommRing) where
 
   -- The first three coefficients of the first factor, and the rest.
   pub convolve-three : (h f : ℕ → C) (k : ℕ)
-      → convolve R h f k ≡ h 0 ⊗ shift R 2 f (suc (suc k)) ⊕ h 1 ⊗ shift R 2 f (suc k) ⊕ h 2 ⊗ shift R 2 f k ⊕ shift R 3 (convolve R (λ i. h (suc (suc (suc i)))) f) k
+      → convolve R h f k
+      ≡ h 0 ⊗ shift R 2 f (suc (suc k)) ⊕ h 1 ⊗ shift R 2 f (suc k) ⊕ h 2 ⊗ shift R 2 f k ⊕ shift R 3 (convolve R (λ i. h (suc (suc (suc i)))) f) k
   unfolding convolve shift
   convolve-three h f zero = ring R (h 0 ∷ h 1 ∷ h 2 ∷ f 0 ∷ []) (v0 ⊠ v3) (v0 ⊠ v3 ⊞ v1 ⊠ ⓪ ⊞ v2 ⊠ ⓪ ⊞ ⓪) refl
   convolve-three h f (suc zero) = ring R (h 0 ∷ h 1 ∷ h 2 ∷ f 0 ∷ f 1 ∷ []) (v0 ⊠ v4 ⊞ v1 ⊠ v3) (v0 ⊠ v4 ⊞ v1 ⊠ v3 ⊞ v2 ⊠ ⓪ ⊞ ⓪) refl
-  convolve-three h f (suc (suc zero)) = ring R (h 0 ∷ h 1 ∷ h 2 ∷ f 0 ∷ f 1 ∷ f 2 ∷ []) (v0 ⊠ v5 ⊞ (v1 ⊠ v4 ⊞ v2 ⊠ v3)) (v0 ⊠ v5 ⊞ v1 ⊠ v4 ⊞ v2 ⊠ v3 ⊞ ⓪) refl
+  convolve-three h f (suc (suc zero)) =
+      ring R (h 0 ∷ h 1 ∷ h 2 ∷ f 0 ∷ f 1 ∷ f 2 ∷ []) (v0 ⊠ v5 ⊞ (v1 ⊠ v4 ⊞ v2 ⊠ v3)) (v0 ⊠ v5 ⊞ v1 ⊠ v4 ⊞ v2 ⊠ v3 ⊞ ⓪) refl
   convolve-three h f (suc (suc (suc k))) =
       ring R (h 0 ∷ h 1 ∷ h 2 ∷ f (suc k) ∷ f (suc (suc k)) ∷ f (suc (suc (suc k))) ∷ convolve R (λ i. h (suc (suc (suc i)))) f k ∷ [])
       (v0 ⊠ v5 ⊞ (v1 ⊠ v4 ⊞ (v2 ⊠ v3 ⊞ v6))) (v0 ⊠ v5 ⊞ v1 ⊠ v4 ⊞ v2 ⊠ v3 ⊞ v6) refl
@@ -88,7 +90,8 @@ module _ (R : CommRing) where
       ap₂ (λ x y. x ⊕ y) (added i) (sym (shift-shift d 3 rest i))
       ∙ add-assoc (s i) (shift R d t i) (shift R d (shift R 3 rest) i)
       ∙ ap (λ x. s i ⊕ x)
-      (sym (shift-sum d t (shift R 3 rest) i) ∙ ap (λ g. shift R d g i) (fun-ext (λ k. ap (λ x. x ⊕ shift R 3 rest k) (terms k) ∙ sym (convolve-three h f k))))
+      (sym (shift-sum d t (shift R 3 rest) i)
+      ∙ ap (λ g. shift R d g i) (fun-ext (λ k. ap (λ x. x ⊕ shift R 3 rest k) (terms k) ∙ sym (convolve-three h f k))))
     where
       rest : ℕ → C
       rest = convolve R (λ i. h (suc (suc (suc i)))) f

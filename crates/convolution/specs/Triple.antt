@@ -74,7 +74,8 @@ module _ {μ : Modulus} (made : Made μ) (x y z : ℕ) (l : List ℕ) where
 
   -- What is still to be added when the powers below n have been.
   turns-left : (at n : ℕ) (s : List ℕ) → at + n ≤ length s → (i : ℕ)
-      → K p ._⊕_ (red p (getD (with-turns μ at x y z l n s) i 0)) (shift (K p) (at + n) (from n t) i) ≡ K p ._⊕_ (red p (getD s i 0)) (shift (K p) at t i)
+      → K p ._⊕_ (red p (getD (with-turns μ at x y z l n s) i 0)) (shift (K p) (at + n) (from n t) i)
+      ≡ K p ._⊕_ (red p (getD s i 0)) (shift (K p) at t i)
   unfolding with-turns
   turns-left at zero s fits i =
       ap₂ (λ d g. K p ._⊕_ (red p (getD s i 0)) (shift (K p) d g i)) (Nat.add-zero at) (fun-ext (λ k. ap t (Nat.zero-add k)))
@@ -97,5 +98,6 @@ module _ {μ : Modulus} (made : Made μ) (x y z : ℕ) (l : List ℕ) where
   triple-same at n s fits zeros i =
       let s′ : List ℕ = with-turns μ at x y z l n s in
       sym (K p .add-zero (red p (getD s′ i 0)))
-      ∙ ap (λ u. K p ._⊕_ (red p (getD s′ i 0)) u) (sym (shift-zeros (K p) (at + n) (from n t) (λ j. triple-zero p x y z l n zeros (n + j) (omega arith)) i))
+      ∙ ap (λ u. K p ._⊕_ (red p (getD s′ i 0)) u)
+      (sym (shift-zeros (K p) (at + n) (from n t) (λ j. triple-zero p x y z l n zeros (n + j) (omega arith)) i))
       ∙ turns-left at n s fits i

@@ -12,7 +12,8 @@ use Rattle.convolution.proofs.add_product.Statement.{statement}
 use Rattle.convolution.proofs.add_product.Tie as tie
 
 abbrev Inv-loop : tie.InvT-loop
-Inv-loop sums₀ f count g top modulus at₀ sums at = (at % 3 ≡ 0) × ((at ≤ count + 2) × ((length sums ≡ capacity) × (sums ≡ with-triples modulus top f g (at / 3) sums₀)))
+Inv-loop sums₀ f count g top modulus at₀ sums at =
+    (at % 3 ≡ 0) × ((at ≤ count + 2) × ((length sums ≡ capacity) × (sums ≡ with-triples modulus top f g (at / 3) sums₀)))
 
 abbrev μ-loop : tie.MeasureT-loop
 μ-loop sums₀ f count g top modulus at₀ sums at = count + 2 - at

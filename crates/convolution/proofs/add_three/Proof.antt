@@ -57,7 +57,10 @@ unfolding capacity most-power most-rows most-length
 element-copy-out-product-3 c = omega arith
 
 product-requires-3 : tie.Need-product-requires-3
-product-requires-3 c κs = let b = c .before .before .before .before .before .before in (b .pre .0 .1 .1, b .pre .1 .1 (b .args .k))
+product-requires-3 c κs =
+    let first = c .before .before .before .before in
+    let b = first .before .before in
+    (b .pre .0 .1 .1, b .pre .1 .1 (b .args .k))
 
 add-result-3 : tie.Need-add-result-3
 add-result-3 c = search needs
@@ -67,7 +70,8 @@ unfolding with-three
 returns c =
     let before-three = c .before .before in
     let before-two = before-three .before .before in
-    ap₂ _+_ (ap₂ _+_ (ap₂ _+_ (before-two .before .before .fold .ensures .0) (before-two .product .ensures .0)) (before-three .product2 .ensures .0)) (c .product3 .ensures .0)
+    let folded = before-two .before .before .fold .ensures .0 in
+    ap₂ _+_ (ap₂ _+_ (ap₂ _+_ folded (before-two .product .ensures .0)) (before-three .product2 .ensures .0)) (c .product3 .ensures .0)
 
 pub add-three-spec : {M : Type 1} → statement M
 add-three-spec =

@@ -77,7 +77,8 @@ element-copy-out-add-three c = omega arith
 add-three-requires : tie.Need-add-three-requires Inv-loop μ-loop
 unfolding capacity most-power most-rows most-length
 add-three-requires c κs =
-    let b = c .before .before .before .before .before .before in
+    let turn = c .before .before in
+    let b = turn .before .before .before .before in
     let e = b .pre .1 .0 in
     ((e (b .args .at + 2), (e (b .args .at + 3), e (b .args .at + 4))), ((omega arith, b .pre .0 .1 .0), b .pre .1 .1))
 
@@ -98,8 +99,8 @@ unfolding capacity most-power most-rows most-length
 loop-less c = omega arith
 
 -- The sums after one turn more.
-turned : (μ : Modulus) (at x y z : ℕ) (g : List ℕ) (k r : ℕ) (s₀ s : List ℕ) → r ≡ with-three μ x y z g k (getD s (at + k) 0) → s ≡ with-turns μ at x y z g k s₀
-    → set s (at + k) r ≡ with-turns μ at x y z g (k + 1) s₀
+turned : (μ : Modulus) (at x y z : ℕ) (g : List ℕ) (k r : ℕ) (s₀ s : List ℕ) → r ≡ with-three μ x y z g k (getD s (at + k) 0)
+    → s ≡ with-turns μ at x y z g k s₀ → set s (at + k) r ≡ with-turns μ at x y z g (k + 1) s₀
 unfolding with-turns
 turned μ at x y z g k r s₀ s three e =
     ap (set s (at + k)) three
@@ -108,14 +109,15 @@ turned μ at x y z g k r s₀ s three e =
 
 loop-again : tie.Need-loop-again Inv-loop μ-loop
 loop-again c =
-    let a = c .before .before .before .before .before .before .before .args in
-    let f = a .f .now in
-    let at-loop = c .before .before .before .loop in (
+    let turn = c .before .before .before in
+    let at-loop = turn .loop in
+    let a = turn .before .before .before .before .args in
+    let f = a .f .now in (
       omega arith,
       (
         length-set (at-loop .sums) (a .at + at-loop .k) (c .add-three .result) ∙ at-loop .inv .1 .0,
-        turned (a .modulus) (a .at) (getD f (a .at + 2) 0) (getD f (a .at + 3) 0) (getD f (a .at + 4) 0) (a .g .now) (at-loop .k) (c .add-three .result)
-            (a .sums .now) (at-loop .sums) (c .add-three .ensures) (at-loop .inv .1 .1),
+        turned (a .modulus) (a .at) (getD f (a .at + 2) 0) (getD f (a .at + 3) 0) (getD f (a .at + 4) 0) (a .g .now) (at-loop .k)
+            (c .add-three .result) (a .sums .now) (at-loop .sums) (c .add-three .ensures) (at-loop .inv .1 .1),
       ),
     )
 
@@ -127,7 +129,8 @@ returns c =
     let at-loop = c .before .loop in
     let turns : at-loop .k ≡ a .top + 3 = omega arith in
     at-loop .inv .1 .1
-    ∙ ap (λ n. with-turns (a .modulus) (a .at) (getD f (a .at + 2) 0) (getD f (a .at + 3) 0) (getD f (a .at + 4) 0) (a .g .now) n (a .sums .now)) turns
+    ∙ ap (λ n. with-turns (a .modulus) (a .at) (getD f (a .at + 2) 0) (getD f (a .at + 3) 0) (getD f (a .at + 4) 0) (a .g .now) n (a .sums .now))
+    turns
 
 pub add-triple-spec : {M : Type 1} → statement M
 add-triple-spec =

@@ -65,8 +65,9 @@ loop-less c = omega arith
 loop-again : tie.Need-loop-again Inv-loop μ-loop
 unfolding capacity most-power most-rows most-length
 loop-again c =
-    let a = c .before .before .before .before .before .before .args in
-    let at-loop = c .before .before .before .before .loop in
+    let turn = c .before .before .before .before in
+    let at-loop = turn .loop in
+    let a = turn .before .before .args in
     let x = c .with-sign .result in
     let place = subst (λ n. Signed (a .p) (a .j) (getD (a .entries .now) n 0) x) (c .before .before .entry-place .ensures) (c .with-sign .ensures) in (
       omega arith,
