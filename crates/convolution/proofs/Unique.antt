@@ -2,7 +2,9 @@
 use mathlib.Core.Path.{refl, sym, _∙_}
 use denote.Ref.{now}
 use Rattle.unique.specs.OneResult.{OneResult}
+use Rattle.polynomial.specs.Coefficients.{ends-unique}
 use Rattle.convolution.specs.Padded.{Remainder, filled-unique}
+use Rattle.convolution.specs.Unpadded.{coefficient, one-unpadded}
 use Rattle.convolution.proofs.no_coefficients.Kinds as no-coefficients-kinds
 use Rattle.convolution.proofs.no_coefficients.Reads as no-coefficients
 use Rattle.convolution.proofs.no_sums.Kinds as no-sums-kinds
@@ -11,6 +13,10 @@ use Rattle.convolution.proofs.add_product.Kinds as add-product-kinds
 use Rattle.convolution.proofs.add_product.Reads as add-product
 use Rattle.convolution.proofs.residues.Kinds as residues-kinds
 use Rattle.convolution.proofs.residues.Reads as residues
+use Rattle.convolution.proofs.length_of.Kinds as length-of-kinds
+use Rattle.convolution.proofs.length_of.Reads as length-of
+use Rattle.convolution.proofs.unpadded.Kinds as unpadded-kinds
+use Rattle.convolution.proofs.unpadded.Reads as unpadded
 
 pub no-coefficients-unique : OneResult no-coefficients-kinds.ps no-coefficients-kinds.r no-coefficients.Asked no-coefficients.Learnt
 no-coefficients-unique κs a z z′ w w′ asked h h′ = (h ∙ sym h′, refl)
@@ -23,3 +29,9 @@ add-product-unique κs a z z′ w w′ asked h h′ = (refl, λ i. ((h ∙ sym h
 
 pub residues-unique : OneResult residues-kinds.ps residues-kinds.r residues.Asked residues.Learnt
 residues-unique κs a z z′ w w′ asked h h′ = (filled-unique (Remainder (a .1 .1 .0) (now (a .0))) (λ k x x′ e e′. e ∙ sym e′) h h′, refl)
+
+pub length-of-unique : OneResult length-of-kinds.ps length-of-kinds.r length-of.Asked length-of.Learnt
+length-of-unique κs a z z′ w w′ asked h h′ = (ends-unique (coefficient (now (a .0))) z z′ h h′, refl)
+
+pub unpadded-unique : OneResult unpadded-kinds.ps unpadded-kinds.r unpadded.Asked unpadded.Learnt
+unpadded-unique κs a z z′ w w′ asked h h′ = (one-unpadded h h′, refl)

@@ -4,3 +4,5 @@ pub mod Fold
 pub mod Shifted
 pub mod Triple
 pub mod Product
+pub mod Front
+pub mod Unpadded

@@ -1,6 +1,7 @@
 -- How a polynomial modulo p lies in an array: two zeros, then its coefficients from power 0 on, then zeros, at least two of them.
 --   capacity                 the numbers of such an array
 --   Stands p l f             the array l stands for the polynomial f
+--   StandsFor p top f l      it does, f has no power above top, and the numbers of l are below p
 --   Filled n P l             the first n coefficients of l satisfy P 0, P 1, …, and everything else is 0
 --   filled-unique            where P settles the coefficients there is one such array
 use mathlib.Core.Path.{_≡_, refl, sym, ap, subst, _∙_}
@@ -25,6 +26,12 @@ capacity = 2 + most-coefficients + 2
 -- The numbers of l are the coefficients of X²·f.
 abbrev pub Stands : (p : ℕ) → List ℕ → (ℕ → Residue p) → Type 0
 Stands p l f = (i : ℕ) → red p (getD l i 0) ≡ shift (K p) 2 f i
+
+-- The array l stands for the polynomial f, which has no power above top, and its numbers are below p.
+pub record StandsFor (p top : ℕ) (f : ℕ → Residue p) (l : List ℕ) : Type 0 where
+  pub stands : Stands p l f
+  pub below : Below (K p) (suc top) f
+  pub small : Each p l
 
 -- Two zeros, then n numbers of which the k-th satisfies P k, then zeros.
 pub record Filled (n : ℕ) (P : ℕ → ℕ → Type 0) (l : List ℕ) : Type 0 where

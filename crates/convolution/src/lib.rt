@@ -5,14 +5,16 @@
 use field::CUT;
 use field::Modulus;
 use polynomial::COEFFICIENTS;
+use polynomial::Polynomial;
 ghost use mathlib.Core.Path.{_≡_};
 ghost use Prim.Native.Nat.{_+_, _*_, _^_, _≤_, _<_};
 ghost use lib.ListN.{length, replicate};
 ghost use Rattle.field.specs.Modulus.{Made};
 ghost use Rattle.layout.specs.Holds.{Each};
-ghost use Rattle.polynomial.specs.Coefficients.{most-power};
+ghost use Rattle.polynomial.specs.Coefficients.{most-power, ZerosFrom, Ends};
 ghost use Rattle.convolution.specs.Padded.{capacity, Filled, Remainder};
 ghost use Rattle.convolution.specs.Steps.{folded, with-three, with-triple, with-product};
+ghost use Rattle.convolution.specs.Unpadded.{coefficient, Unpadded};
 
 // The numbers of an array that holds a polynomial.
 pub const CAPACITY: usize = 2 + COEFFICIENTS + 2;
@@ -117,4 +119,35 @@ pub fn residues(sums: &[u64; CAPACITY], top: usize, p: u32) -> [u32; CAPACITY]
         l[k + 2] = (sums[k] % p as u64) as u32;
     }
     l
+}
+
+// l: a polynomial in such an array, of at most `bound` coefficients.
+// Their number without the zeros at the end.
+pub fn length_of(l: &[u32; CAPACITY], bound: usize) -> usize
+    requires { ⌜ ZerosFrom (coefficient (now l)) bound ⌝ }
+    ensures { λ r. ⌜ Ends (coefficient (now (l .entry))) r ⌝ }
+{
+    let mut n = bound;
+    while 0 < n {
+        if l[n + 1] != 0 {
+            return n;
+        }
+        n -= 1;
+    }
+    0
+}
+
+// l: a polynomial in such an array. length: the number of its coefficients.
+// The polynomial, without the zeros in front.
+pub fn unpadded(l: &[u32; CAPACITY], length: usize) -> Polynomial
+    ensures { λ r. ⌜ Unpadded (now (l .entry)) length r ⌝ }
+{
+    let mut f = Polynomial {
+        coefficients: [0; COEFFICIENTS],
+        length,
+    };
+    for k in 0..COEFFICIENTS {
+        f.coefficients[k] = l[k + 2];
+    }
+    f
 }

@@ -1,6 +1,4 @@
-pub mod Front
 pub mod Sign
 pub mod Tops
 pub mod Square
 pub mod Expansion
-pub mod Unpadded

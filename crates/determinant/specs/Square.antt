@@ -2,7 +2,6 @@
 --   Holds p m entries lengths      the array holds an m × m matrix of polynomials modulo p, whose entries have the lengths
 --   square p entries row columns   the square of the rows from `row` on and the columns that a list names
 --   Asked                    what is asked for the determinant of a square
---   StandsFor p top f l      the array l stands for f, which has no power above top, and its numbers are below p
 --   Determinant              the array of a square's determinant
 --   Without j columns left   the columns without the j-th
 use mathlib.Core.Path.{_≡_, refl, sym, ap, subst, _∙_}
@@ -13,9 +12,8 @@ use native.Mathlib.Numerals.{add-one}
 use native.Mathlib.Omega.{arith}
 use lib.ListN.{getD}
 use Rattle.algebra.specs.Sum.{skip}
-use Rattle.algebra.specs.Residue.{K, Residue}
+use Rattle.algebra.specs.Residue.{K}
 use Rattle.algebra.specs.Series.{Series}
-use Rattle.algebra.specs.Polynomial.{Below}
 use Rattle.algebra.specs.Matrix.{Matrix}
 use Rattle.algebra.specs.Det.{det}
 use Rattle.rules.specs.Sizes.{largest-prime, most-rows}
@@ -23,7 +21,7 @@ use Rattle.field.specs.declared.Modulus.{Modulus}
 use Rattle.field.specs.Modulus.{Made}
 use Rattle.layout.specs.Flat.{cells}
 use Rattle.layout.specs.Holds.{Each, Padded}
-use Rattle.convolution.specs.Padded.{Stands}
+use Rattle.convolution.specs.Padded.{StandsFor}
 use Rattle.determinant.specs.Tops.{Tops}
 
 -- The flat array holds an m × m matrix of polynomials modulo p, and lengths says how many coefficients each entry has.
@@ -46,12 +44,6 @@ pub record Asked (μ : Modulus) (size row : ℕ) (entries lengths tops columns :
   pub made : Made μ
   pub some : 1 ≤ size
   pub within : (j : ℕ) → j < size → getD columns j 0 < row + size
-
--- The array l stands for the polynomial f, which has no power above top, and its numbers are below p.
-pub record StandsFor (p top : ℕ) (f : ℕ → Residue p) (l : List ℕ) : Type 0 where
-  pub stands : Stands p l f
-  pub below : Below (K p) (suc top) f
-  pub small : Each p l
 
 abbrev pub Determinant : (p size row : ℕ) (entries tops columns l : List ℕ) → Type 0
 Determinant p size row entries tops columns l = StandsFor p (getD tops row 0) (det (Series (K p)) size (square p entries row columns)) l

@@ -4,9 +4,11 @@
 // A polynomial of the work stands in an array as `convolution` has it.
 use convolution::CAPACITY;
 use convolution::add_product;
+use convolution::length_of;
 use convolution::no_coefficients;
 use convolution::no_sums;
 use convolution::residues;
+use convolution::unpadded;
 use field::Modulus;
 use field::neg_mod;
 use layout::ENTRY_COEFFICIENTS;
@@ -14,7 +16,6 @@ use layout::ROWS;
 use layout::SQUARE;
 use layout::entry_place;
 use layout::square_place;
-use polynomial::COEFFICIENTS;
 use polynomial::Polynomial;
 ghost use mathlib.Core.Path.{_≡_};
 ghost use Prim.Native.Nat.{pred, max, _+_, _≤_, _<_};
@@ -26,12 +27,11 @@ ghost use Rattle.rules.specs.Sizes.{most-rows, most-length};
 ghost use Rattle.field.specs.Modulus.{Made};
 ghost use Rattle.layout.specs.Flat.{length-at, cells};
 ghost use Rattle.layout.specs.Holds.{Each};
-ghost use Rattle.polynomial.specs.Coefficients.{ZerosFrom, Ends, Coefficients};
+ghost use Rattle.polynomial.specs.Coefficients.{Coefficients};
 ghost use Rattle.determinant.specs.Sign.{Signed, SignedEntry};
 ghost use Rattle.determinant.specs.Tops.{Tops, RowTop};
 ghost use Rattle.determinant.specs.Square.{Holds, Asked, Determinant, Without};
 ghost use Rattle.determinant.specs.Expansion.{InOrder};
-ghost use Rattle.determinant.specs.Unpadded.{coefficient, Unpadded};
 
 // x: a number below p. j: a column.
 // x with the sign of the column, modulo p: x itself in the even columns, its negative in the odd ones.
@@ -205,37 +205,6 @@ fn all_columns() -> [usize; ROWS]
         columns[j] = j;
     }
     columns
-}
-
-// l: a polynomial of the work, of at most `bound` coefficients.
-// Their number without the zeros at the end.
-fn length_of(l: &[u32; CAPACITY], bound: usize) -> usize
-    requires { ⌜ ZerosFrom (coefficient (now l)) bound ⌝ }
-    ensures { λ r. ⌜ Ends (coefficient (now (l .entry))) r ⌝ }
-{
-    let mut n = bound;
-    while 0 < n {
-        if l[n + 1] != 0 {
-            return n;
-        }
-        n -= 1;
-    }
-    0
-}
-
-// l: a polynomial of the work. length: the number of its coefficients.
-// The polynomial, without the zeros in front.
-fn unpadded(l: &[u32; CAPACITY], length: usize) -> Polynomial
-    ensures { λ r. ⌜ Unpadded (now (l .entry)) length r ⌝ }
-{
-    let mut f = Polynomial {
-        coefficients: [0; COEFFICIENTS],
-        length,
-    };
-    for k in 0..COEFFICIENTS {
-        f.coefficients[k] = l[k + 2];
-    }
-    f
 }
 
 // entries: the coefficients of an m × m matrix of polynomials modulo p, each below p, an entry's coefficients followed by zeros. lengths:

@@ -3,7 +3,7 @@ use mathlib.Core.Path.{_≡_, refl, _∙_}
 use Prim.Native.Nat.{ℕ, _-_, _<_, _≤_}
 use lib.ListN.{length, getD, length-set}
 use Rattle.rules.specs.Sizes.{most-rows}
-use Rattle.determinant.specs.Front.{front-more}
+use Rattle.convolution.specs.Front.{front-more}
 use Rattle.determinant.proofs.all_columns.Statement.{statement}
 use Rattle.determinant.proofs.all_columns.Tie as tie
 

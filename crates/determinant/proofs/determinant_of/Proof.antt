@@ -8,9 +8,9 @@ use Rattle.algebra.specs.Det.{det}
 use Rattle.rules.specs.Sizes.{most-rows, most-length}
 use Rattle.layout.specs.Flat.{cells}
 use Rattle.polynomial.specs.Coefficients.{most-power}
-use Rattle.determinant.specs.Square.{StandsFor}
+use Rattle.convolution.specs.Padded.{StandsFor}
 use Rattle.determinant.specs.Expansion.{asked-whole, whole-square}
-use Rattle.determinant.specs.Unpadded.{work-zeros, unpadded-coefficients}
+use Rattle.convolution.specs.Unpadded.{work-zeros, unpadded-coefficients}
 use Rattle.determinant.proofs.determinant_of.Statement.{statement}
 use Rattle.determinant.proofs.determinant_of.Tie as tie
 

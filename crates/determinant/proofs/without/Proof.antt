@@ -4,7 +4,7 @@ use Prim.Native.Nat.{ℕ, _+_, _-_, _<_, _≤_}
 use lib.ListN.{length, getD, length-set}
 use Rattle.algebra.specs.Sum.{skip, skip-below}
 use Rattle.rules.specs.Sizes.{most-rows}
-use Rattle.determinant.specs.Front.{front-more}
+use Rattle.convolution.specs.Front.{front-more}
 use Rattle.determinant.proofs.without.Statement.{statement}
 use Rattle.determinant.proofs.without.Tie as tie
 

@@ -4,9 +4,9 @@ use Prim.Native.Nat.{_+_, _-_}
 use lib.ListN.{getD}
 use Rattle.rules.specs.Sizes.{most-rows, most-length}
 use Rattle.polynomial.specs.Coefficients.{most-power, ZerosFrom, one-zero-more, ends-there, ends-nowhere}
-use Rattle.determinant.specs.Unpadded.{coefficient}
-use Rattle.determinant.proofs.length_of.Statement.{statement}
-use Rattle.determinant.proofs.length_of.Tie as tie
+use Rattle.convolution.specs.Unpadded.{coefficient}
+use Rattle.convolution.proofs.length_of.Statement.{statement}
+use Rattle.convolution.proofs.length_of.Tie as tie
 
 abbrev Inv-loop : tie.InvT-loop
 Inv-loop l bound n₀ n = ZerosFrom (coefficient l) n

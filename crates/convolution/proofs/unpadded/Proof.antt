@@ -4,10 +4,10 @@ use Prim.Native.Nat.{ℕ, _+_, _-_, _<_, _≤_}
 use lib.ListN.{length, getD, length-set}
 use Rattle.rules.specs.Sizes.{most-rows, most-length}
 use Rattle.polynomial.specs.Coefficients.{most-power, most-coefficients}
-use Rattle.determinant.specs.Front.{front-more}
-use Rattle.determinant.specs.Unpadded.{coefficient}
-use Rattle.determinant.proofs.unpadded.Statement.{statement}
-use Rattle.determinant.proofs.unpadded.Tie as tie
+use Rattle.convolution.specs.Front.{front-more}
+use Rattle.convolution.specs.Unpadded.{coefficient}
+use Rattle.convolution.proofs.unpadded.Statement.{statement}
+use Rattle.convolution.proofs.unpadded.Tie as tie
 
 abbrev Inv-loop : tie.InvT-loop
 Inv-loop l n f₀ k₀ f k =

@@ -1,6 +1,7 @@
--- The coefficients of a polynomial of the work, without the zeros around them.
+-- The coefficients of a polynomial in an array, without the zeros around them.
 --   coefficient l k          the coefficient at power k
 --   Unpadded l n x           x has the coefficients of l, and the length n
+--   one-unpadded             there is one such x
 --   work-zeros, unpadded-coefficients      what they are of the polynomial that l stands for
 use mathlib.Core.Path.{_≡_, sym, ap, subst, _∙_}
 use mathlib.Core.List.{List}
@@ -10,11 +11,12 @@ use native.Mathlib.Numerals.{add-two}
 use native.Mathlib.Omega.{arith}
 use native.Mathlib.Decide.{decLt}
 use lib.ListN.{length, getD, List·getD-eq-default}
+use lib.Seq.{ext-getD}
 use Rattle.algebra.specs.Residue.{K, Residue, red, red-zero-iff}
 use Rattle.algebra.specs.Series.{shift, series-ext}
 use Rattle.polynomial.specs.declared.Polynomial.{Polynomial}
 use Rattle.polynomial.specs.Coefficients.{most-power, most-coefficients, ZerosFrom, Ends, Coefficients}
-use Rattle.determinant.specs.Square.{StandsFor}
+use Rattle.convolution.specs.Padded.{StandsFor}
 
 -- Two zeros stand in front.
 abbrev pub coefficient : List ℕ → ℕ → ℕ
@@ -24,6 +26,15 @@ pub record Unpadded (l : List ℕ) (n : ℕ) (x : Polynomial) : Type 0 where
   pub long : length (x .coefficients) ≡ most-coefficients
   pub same : (k : ℕ) → k < most-coefficients → getD (x .coefficients) k 0 ≡ coefficient l k
   pub counts : x .length ≡ n
+
+-- What it says settles x.
+pub one-unpadded : {l : List ℕ} {n : ℕ} {x x′ : Polynomial} → Unpadded l n x → Unpadded l n x′ → x ≡ x′
+one-unpadded {x = x} {x′ = x′} h h′ i = record { coefficients = numbers i; length = (h .counts ∙ sym (h′ .counts)) i }
+  where
+    numbers : x .coefficients ≡ x′ .coefficients
+    numbers =
+        ext-getD 0 (x .coefficients) (x′ .coefficients) (h .long ∙ sym (h′ .long))
+        (λ k b. h .same k (omega (arith, h .long)) ∙ sym (h′ .same k (omega (arith, h .long))))
 
 module _ {p top : ℕ} {f : ℕ → Residue p} {l : List ℕ} (most : top ≤ most-power) (stands : StandsFor p top f l) where
   positive : 0 < p
