@@ -1,7 +1,7 @@
 """Wrong judges: the second program with one place changed each. Says for each in
 how many cases of a bundle its output differs from the right one; fails if some
 wrong judge differs in none. Then judges that say the same in other words, which
-have to differ in none. Run from the top of the project:
+have to differ in none, and wrong answers by drawn numbers. Run from the top of the project:
 
     python3 second/wrong.py [SEED [COUNT [WORD ...]]]
 
@@ -106,6 +106,26 @@ SAME = [
 ('negative power read as 0',[LEADING,('verdict.rs',AT_POWER,'poly::coefficient(e, power.max(0) as usize)')]),
 ('negative power without its sign',[LEADING,('verdict.rs',AT_POWER,'poly::coefficient(e, power.unsigned_abs() as usize)')]),
 ]
+# wrong answers by drawn numbers
+CUT = 'e.truncate(problem.d[j] + 1);'
+READ = 'd.u[..problem.m].iter().chain([&d.point])'
+COLUMNS = 'for j in 0..problem.n {'
+DRAWN = [
+('drawn: C left out',[('drawn.rs','poly::sub(&e, &c, problem.p)','poly::sub(&e, &poly::scaled(&c, 0, 0, problem.p), problem.p)')]),
+('drawn: C added',[('drawn.rs','poly::sub(&e, &c, problem.p)','poly::add(&e, &c, problem.p)')]),
+('drawn: order left out',[('drawn.rs',CUT,'e.truncate(problem.d[j]);')]),
+('drawn: one power far',[('drawn.rs',CUT,'e.truncate(problem.d[j] + 2);')]),
+('drawn: never cut',[('drawn.rs',CUT,'')]),
+('drawn: number before reading',[('drawn.rs','    let (problem, answer) = match both(&d.problem, &d.answer) {','    if d.point == u32::MAX { return Ok([16, 2, 0, 0]); }\n    let (problem, answer) = match both(&d.problem, &d.answer) {')]),
+('drawn: number m of u tested',[('drawn.rs',READ,'d.u[..(problem.m + 1).min(ROWS)].iter().chain([&d.point])')]),
+('drawn: point not tested',[('drawn.rs',READ,'d.u[..problem.m].iter()')]),
+('drawn: p taken',[('drawn.rs','**x as u64 >= problem.p','**x as u64 > problem.p')]),
+('drawn: point before u',[('drawn.rs',READ,'[&d.point].into_iter().chain(&d.u[..problem.m])')]),
+('drawn: first column alone',[('drawn.rs',COLUMNS,'for j in 0..1 {')]),
+('drawn: last column alone',[('drawn.rs',COLUMNS,'for j in problem.n - 1..problem.n {')]),
+('drawn: last row left out',[('drawn.rs','(0..problem.m).fold(0, |sum, i| {','(0..problem.m - 1).fold(0, |sum, i| {'),('drawn.rs','(0..problem.m).fold(Vec::new(), |sum, i| {','(0..problem.m - 1).fold(Vec::new(), |sum, i| {')]),
+('drawn: one power of the point more',[('drawn.rs','(0, 1 % p);','(0, point % p);')]),
+]
 QUIET = ['top coefficient and leading determinant differ', 'the two ranks differ',
          'the determinant has a power above the degree sum', 'a row of zeros and a determinant other than 0']
 
@@ -130,8 +150,8 @@ def build(edits, place):
     return os.path.join(place, 'second')
 
 
-def said(program, bundle):
-    run = subprocess.run([program, 'expect', bundle], capture_output=True, text=True)
+def said(program, bundle, command='expect'):
+    run = subprocess.run([program, command, bundle], capture_output=True, text=True)
     if run.returncode:
         sys.exit('a judge stops: ' + run.stderr)
     return run.stdout.split('\n')[:-1]
@@ -156,6 +176,17 @@ def main():
             unseen += not same and differ == 0
             told_apart += same and differ != 0
             print('%-32s %d cases differ%s' % (name, differ, ', as they should' if same and differ == 0 else ''), flush=True)
+        drawings = os.path.join(place, 'drawings')
+        right = build([], place)
+        subprocess.run([right, 'draw', '--seed', seed, '--count', str(2 * int(count)), '--out', drawings], check=True)
+        due = said(right, drawings, 'drawn')
+        for name, edits in DRAWN:
+            if words and not any(w in name for w in words):
+                continue
+            got = said(build(edits, place), drawings, 'drawn')
+            differ = sum(a != b for a, b in zip(due, got))
+            unseen += differ == 0
+            print('%-32s %d drawings differ' % (name, differ), flush=True)
     print('%d wrong judges not seen, %d told apart that say the same' % (unseen, told_apart))
     sys.exit(1 if unseen or told_apart else 0)
 
