@@ -10,10 +10,7 @@ ghost use Rattle.problem_file.specs.Values.{problem-value, with-arrays, 
 
 mod records;
 
-use crate::records::Headed;
-use crate::records::Sizes;
 use crate::records::read_body;
-use crate::records::read_head;
 use claim::Head;
 use claim::Problem;
 use layout::COLUMN_COEFFICIENTS;
@@ -22,6 +19,9 @@ use layout::no_columns;
 use place::Going;
 use place::Stop;
 use place::front;
+use problem_head::Headed;
+use problem_head::Sizes;
+use problem_head::read_head;
 use refusal::accepted;
 use refusal::narrow;
 use verdict::Refusal;

@@ -4,54 +4,33 @@ ghost use Prim.Native.Nat.{ℕ, _+_, _≤_, _<_};
 ghost use lib.ListN.{length, getD};
 ghost use Rattle.rules.specs.Sizes.{most-rows, most-order};
 ghost use Rattle.rules.specs.Reader.{each, field, unless};
-ghost use Rattle.rules.specs.Files.{PR, OR, SH, FC, one-to, shift-reader};
+ghost use Rattle.rules.specs.Files.{OR, SH, FC, one-to, shift-reader};
 ghost use Rattle.place.specs.Places.{place, going};
 ghost use Rattle.layout.specs.Flat.{filled, column-coefficients};
-ghost use Rattle.problem_file.specs.Head.{headed};
 ghost use Rattle.storing.specs.Storing.{into};
 ghost use Rattle.storing.specs.Flat.{list-into, shifts-into, put-column, columns-into, body-into};
-ghost use Rattle.problem_file.specs.Head.{sizes-reader};
 ghost use Rattle.problem_file.specs.Values.{body-reader};
 use cursor::read_due;
 use cursor::read_mark;
-use cursor::read_prime;
 use cursor::read_shift;
 use cursor::read_size;
 use cursor::signed16;
 use layout::ORDER;
-use layout::ROWS;
 use layout::column_place;
 use place::Field;
 use place::Going;
 use place::Place;
-use place::Stop;
-use place::after;
 use place::closed;
 use place::finish;
 use place::opened;
 use runs::block;
 
 // The marks, low byte first.
-const PR: u32 = 0x50 + 256 * 0x52;
-
 const OR: u32 = 0x4F + 256 * 0x52;
 
 const SH: u32 = 0x53 + 256 * 0x48;
 
 const FC: u32 = 0x46 + 256 * 0x43;
-
-// What the `PR` record holds.
-pub(crate) struct Sizes {
-    pub p: u32,
-    pub m: usize,
-    pub n: usize,
-}
-
-// What reading the `PR` record gives: its numbers and the place after it, or the refusal.
-pub(crate) enum Headed {
-    Got(Sizes, Place),
-    Off(Stop),
-}
 
 // s: the file. q: the place of the first of n orders. out: where they go.
 // How the reading goes on after them.
@@ -93,43 +72,6 @@ fn shift_list(s: &[u8], q: Place, m: usize, out: &mut [i32]) -> Going
         i += 1;
     }
     Going::On(here)
-}
-
-// s: the file. q: the place after the prime p of the `PR` record.
-// The record's numbers and the place after it, or the refusal.
-fn head_sizes(s: &[u8], q: Place, p: u32) -> Headed
-    requires { ⌜ q .number < 65535 ⌝ }
-    ensures { λ r. ⌜ headed r ≡ sizes-reader p (now (s .entry)) (place q) ⌝ }
-{
-    match read_size(s, q, ROWS as u32) {
-        Field::Off(x) => Headed::Off(x),
-        Field::Value(m, q1) => match read_size(s, q1, ROWS as u32) {
-            Field::Off(x) => Headed::Off(x),
-            Field::Value(n, q2) => Headed::Got(
-                Sizes {
-                    p,
-                    m: m as usize,
-                    n: n as usize,
-                },
-                after(q2),
-            ),
-        },
-    }
-}
-
-// s: the file. q: the place of the `PR` record.
-// The record's numbers and the place after it, or the refusal.
-pub(crate) fn read_head(s: &[u8], q: Place) -> Headed
-    requires { ⌜ q .number < 65535 ⌝ }
-    ensures { λ r. ⌜ headed r ≡ PR (now (s .entry)) (place q) ⌝ }
-{
-    match read_mark(s, opened(q), PR) {
-        Field::Off(x) => Headed::Off(x),
-        Field::Value(_, q1) => match read_prime(s, q1) {
-            Field::Off(x) => Headed::Off(x),
-            Field::Value(p, q2) => head_sizes(s, q2, p),
-        },
-    }
 }
 
 // s: the file. q: the place of the `OR` record. n: the columns. out: where their orders go.

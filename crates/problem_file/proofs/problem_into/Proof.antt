@@ -14,7 +14,7 @@ use Rattle.laws.specs.Soundness.{InSize, sound-PR}
 use Rattle.place.specs.Places.{place, refusal}
 use Rattle.layout.specs.Flat.{filled, column-coefficients}
 use Rattle.problem_file.specs.declared.ReadProblem.{ReadProblem}
-use Rattle.problem_file.specs.Head.{headed}
+use Rattle.problem_head.specs.Head.{headed}
 use Rattle.problem_file.specs.Values.{body-reader, problem-value, problem-from, head-refused, head-given, with-arrays}
 use Rattle.storing.specs.Records.{refused-into}
 use Rattle.storing.specs.Arrays.{filled-length}

@@ -1,4 +1,4 @@
--- `problem_file::records::read_head` meets its contract. Assumes nothing.
+-- `problem_head::read_head` meets its contract. Assumes nothing.
 use mathlib.Core.Path.{_≡_, sym, _∙_}
 use native.Mathlib.Omega.{arith}
 use borrow.Author.Needs.{needs}
@@ -6,10 +6,10 @@ use Rattle.rules.specs.Reader.{mark, field, unless}
 use Rattle.rules.specs.Files.{PR-mark, PR, allowed-prime}
 use Rattle.laws.specs.ReaderLaws.{opening}
 use Rattle.storing.specs.Records.{marked, refuses, gives, record-refused, record-given, field-number}
-use Rattle.problem_file.specs.Head.{sizes-reader}
+use Rattle.problem_head.specs.Head.{sizes-reader}
 use Rattle.place.specs.Places.{place, taken}
-use Rattle.problem_file.proofs.records.read_head.Statement.{statement}
-use Rattle.problem_file.proofs.records.read_head.Tie as tie
+use Rattle.problem_head.proofs.read_head.Statement.{statement}
+use Rattle.problem_head.proofs.read_head.Tie as tie
 
 opened-requires : tie.Need-opened-requires
 opened-requires c κs = search needs

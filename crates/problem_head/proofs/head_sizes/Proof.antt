@@ -1,4 +1,4 @@
--- `problem_file::records::head_sizes` meets its contract. Assumes nothing.
+-- `problem_head::head_sizes` meets its contract. Assumes nothing.
 use mathlib.Core.Path.{_≡_, sym, ap, _∙_}
 use Prim.Native.Nat.{ℕ}
 use native.Mathlib.Omega.{arith}
@@ -7,11 +7,11 @@ use Rattle.rules.specs.Sizes.{most-rows}
 use Rattle.rules.specs.Reader.{Result, got, field, unless, next}
 use Rattle.rules.specs.Files.{one-to}
 use Rattle.place.specs.declared.Place.{Place as Spot}
-use Rattle.problem_file.specs.Head.{sizes-reader}
+use Rattle.problem_head.specs.Head.{sizes-reader}
 use Rattle.storing.specs.Records.{refuses, gives, record-refused, record-given, field-number}
 use Rattle.place.specs.Places.{place, taken}
-use Rattle.problem_file.proofs.records.head_sizes.Statement.{statement}
-use Rattle.problem_file.proofs.records.head_sizes.Tie as tie
+use Rattle.problem_head.proofs.head_sizes.Statement.{statement}
+use Rattle.problem_head.proofs.head_sizes.Tie as tie
 
 cast-read-size : tie.Need-cast-read-size
 cast-read-size c = search needs
