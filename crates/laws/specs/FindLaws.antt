@@ -1,12 +1,13 @@
 -- The search for "that one combination": constants are found that pass the test, if there are any.
 --   find-constants-found, find-constants-none  what is found passes, and where nothing is, nothing passes
+--   find-constants-past      what is found is 0 from the number of rows on
 --   unless-iff, unless-both  tests of what is not left out
 --   IsCombination, depends-iff, depends-local  the test of a combination
 use mathlib.Core.Path.{_≡_, refl, sym, ap, subst, _∙_}
 use mathlib.Core.Logic.{_↔_}
 use mathlib.Core.Bool.{Bool, true, false, cond, not, true≢false, false≢true}
 use mathlib.Core.Option.{Option, none, some, Option·some-injective, Option·none-ne-some, Option·some-ne-none}
-use Prim.Native.Nat.{ℕ, zero, suc, _<_, suc-le-suc}
+use Prim.Native.Nat.{ℕ, zero, suc, _≤_, _<_, suc-le-suc}
 use native.Mathlib.Nat.{le-of-suc-le-suc, not-suc-le-zero, zero-lt-suc}
 use Rattle.algebra.specs.Residue.{K, Residue, red, red-onto, residue-below}
 use Rattle.algebra.specs.Matrix.{Row, Matrix, SameRow, cons, cons-eta, vmul, vmul-cong}
@@ -82,6 +83,25 @@ module _ (p : ℕ) where
       by : (o : Option (Row (K p))) → _≡_ {A = Option (Row (K p))} (elim o [ none ↦ none | some v ↦ some (cons (red p (u zero .0)) v) ]) none → o ≡ none
       by none e = refl
       by (some v) e = absurd (Option·some-ne-none (cons (red p (u zero .0)) v) e)
+
+  -- They are 0 from the number of rows on.
+  pub find-constants-past : (m : ℕ) (test : Row (K p) → Bool) (u : Row (K p)) → find-constants p m test ≡ some u → (q : ℕ) → m ≤ q → u q ≡ red p 0
+  unfolding find-constants cons
+  find-constants-past zero test u e q h = by (test (λ i. red p 0)) e
+    where
+      by : (t : Bool) → elim t as (λ x. Option (Row (K p))) [ true ↦ some (λ i. red p 0) | false ↦ none ] ≡ some u → u q ≡ red p 0
+      by true e = sym (ap (λ v. v q) (Option·some-injective (λ i. red p 0) u e))
+      by false e = absurd (Option·none-ne-some u e)
+  find-constants-past (suc m) test u e zero h = absurd (not-suc-le-zero h)
+  find-constants-past (suc m) test u e (suc q) h =
+      let (x, b, f) = first-some-found p _ u e in
+      by x (find-constants p m (λ u. test (cons (red p x) u))) refl (find-constants-past m (λ u. test (cons (red p x) u))) f
+    where
+      by : (x : ℕ) (o : Option (Row (K p))) → find-constants p m (λ u. test (cons (red p x) u)) ≡ o
+          → ((v : Row (K p)) → find-constants p m (λ u. test (cons (red p x) u)) ≡ some v → (q : ℕ) → m ≤ q → v q ≡ red p 0)
+          → elim o as (λ y. Option (Row (K p))) [ none ↦ none | some u ↦ some (cons (red p x) u) ] ≡ some u → u (suc q) ≡ red p 0
+      by x none h′ past e = absurd (Option·none-ne-some u e)
+      by x (some v) h′ past e = sym (ap (λ w. w (suc q)) (Option·some-injective (cons (red p x) v) u e)) ∙ past v h′ q (le-of-suc-le-suc h)
 
 -- Tests of what is not left out: where b fails, c passes; where it passes, c does; b and c fail.
 pub unless-iff : (b c : Bool) → (cond b false (not c) ≡ false) ↔ (b ≡ false → c ≡ true)

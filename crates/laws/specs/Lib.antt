@@ -27,6 +27,7 @@ pub mod PartLaws
 pub mod FindLaws
 pub mod RowOrder
 pub mod ChosenLaws
+pub mod ChoiceLocal
 pub mod ListedLaws
 pub mod MakerLaws
 pub mod MakerPasses

@@ -1,10 +1,12 @@
 -- What the maker makes: after each step P is a basis of the orders reached.
 --   after-entry-length, after-valid, after-entries       the entries after k steps: at most k + 1 coefficients, within their sizes
+--   after-product            the product with F may be kept step by step
 --   AfterBasis, after-basis  what holds of P after k steps
-use mathlib.Core.Path.{_≡_, refl, sym, ap, subst}
+--   after-degree-start, after-degree-step      the row degrees: a pivot's goes up by one, the others stay
+use mathlib.Core.Path.{_≡_, refl, sym, ap, subst, _∙_}
 use mathlib.Core.Bool.{Bool, true, false, not}
 use mathlib.Core.Option.{some, Option·getD}
-use Prim.Native.Nat.{ℕ, zero, suc, min, _+_, _≤_, _<_}
+use Prim.Native.Nat.{ℕ, zero, suc, min, _+_, _≤_, _<_, zero-le}
 use native.Mathlib.Nat.{le-of-lt}
 use native.Mathlib.Omega.{arith}
 use lib.Dec.{T, ltb, ltb→lt, nltb→le}
@@ -13,9 +15,9 @@ use lib.ListN.{length}
 use Rattle.algebra.specs.Residue.{K, K-decides, K-cancels, K-nontrivial}
 use Rattle.algebra.specs.Series.{Series, constant}
 use Rattle.algebra.specs.Polynomial.{Below, below-constant, below-mono}
-use Rattle.algebra.specs.Matrix.{Matrix, Same, unit, vmul, mmul, unit-related}
+use Rattle.algebra.specs.Matrix.{Matrix, Same, unit, vmul, vmul-cong, mmul, unit-related}
 use Rattle.algebra.specs.PolyMatrix.{entries}
-use Rattle.algebra.specs.Step.{once, next, residuals, Choice, Basis}
+use Rattle.algebra.specs.Step.{once, next, next-product, residuals, Choice, Basis}
 use Rattle.algebra.specs.StepDegrees.{constants-related}
 use Rattle.algebra.specs.StepRank.{next-below}
 use Rattle.algebra.specs.StepBasis.{identity-basis, step-basis, basis-row-degree, choice-local, basis-local}
@@ -61,12 +63,23 @@ module _ (b : Problem) (valid : ValidProblem b) where
       (below-constant (K (b .p)) (unit (K (b .p)) i j)))
 
   -- … and after each step for what the step makes of the matrix before.
-  after-step : (k : ℕ) → Same (Series (K (b .p))) (b .m) (b .m)
+  pub after-step : (k : ℕ) → Same (Series (K (b .p))) (b .m) (b .m)
       (next (K (b .p)) (b .m) (chosen b k (basis-after b k) .pivot) (chosen b k (basis-after b k) .multipliers) (series-after k)) (series-after (suc k))
   unfolding basis-after make-step
   after-step k = list-matrix-entries b positive (suc (suc k)) _ (λ i j hi hj.
       next-below (K (b .p)) (b .m) (chosen b k (basis-after b k) .pivot) (chosen b k (basis-after b k) .multipliers) (series-after k) (suc k) j
       (λ q hq. below-mono (K (b .p)) (series-after k q j) (after-entry-length k q j) (matrix-P b (basis-after b k) q j .below)) i hi)
+
+  -- The product with F after a step is what the step makes of the product before.
+  pub after-product : (k i j t : ℕ) → i < b .m → product b (basis-after b (suc k)) i j t
+      ≡ next (K (b .p)) (b .m) (chosen b k (basis-after b k) .pivot) (chosen b k (basis-after b k) .multipliers) (product b (basis-after b k)) i j t
+  unfolding product mmul
+  after-product k i j t hi =
+      ap (λ f. f t)
+      (vmul-cong (Series (K (b .p))) (b .m) (series-after (suc k) i)
+      (next (K (b .p)) (b .m) (chosen b k (basis-after b k) .pivot) (chosen b k (basis-after b k) .multipliers) (series-after k) i) series-F series-F j
+      (λ q hq. sym (after-step k i q hi hq)) (λ q hq. refl)
+      ∙ next-product (K (b .p)) (b .m) (chosen b k (basis-after b k) .pivot) (chosen b k (basis-after b k) .multipliers) (series-after k) series-F i j hi)
 
   -- What holds of P after k steps: it is a basis of the smaller of each order and k, and r are its row degrees by L2's rule.
   pub record AfterBasis (k : ℕ) : Type 0 where
@@ -133,3 +146,17 @@ module _ (b : Problem) (valid : ValidProblem b) where
       (series-after zero) (λ j hj. omega arith) (λ i hi. refl) after-none
       (identity-basis (K (b .p)) (K-nontrivial (b .p) (valid .prime .two-le)) (b .m) (b .n) series-F (shift b)))
   after-basis (suc k) small = step-after k (after-basis k (omega arith)) small
+
+  -- Before any step the row degrees are the shifts, …
+  pub after-degree-start : (i : ℕ) → i < b .m → row-degree-now b (basis-after b zero) i ≡ shift b i
+  unfolding after-basis with-degrees
+  after-degree-start i hi = ap (λ o. Option·getD o (pos 0)) (after-basis zero zero-le .row-degrees i hi)
+
+  -- … and a step raises that of each pivot by one.
+  pub after-degree-step : (k : ℕ) → suc k ≤ most-order → (i : ℕ) → i < b .m → row-degree-now b (basis-after b (suc k)) i
+      ≡ row-degree-now b (basis-after b k) i +ℤ pos (once (chosen b k (basis-after b k) .pivot i))
+  unfolding step-after with-degrees
+  after-degree-step k small i hi =
+      let before : AfterBasis k = after-basis k (omega arith) in
+      ap (λ o. Option·getD o (pos 0)) (step-after k before small .row-degrees i hi)
+      ∙ ap (λ r. r +ℤ pos (once (chosen b k (basis-after b k) .pivot i))) (sym (ap (λ o. Option·getD o (pos 0)) (before .row-degrees i hi)))

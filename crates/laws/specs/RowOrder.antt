@@ -1,4 +1,5 @@
 -- The order in which the maker takes the rows: the row taken next is lowest, and there is one as long as rows are left.
+--   more-of-test, more-of-failed, test-of-more           the test of the order of integers
 --   Lowest                   a row that was not taken, and than which no other such row is lower
 --   next-row-some, next-row-none               the row taken next
 --   left, left-less, left-none                 how many rows are left
@@ -23,17 +24,17 @@ use Rattle.laws.specs.DegreeLaws.{max-above-left, max-above-right}
 use Rattle.laws.specs.FindLaws.{unless-iff, unless-both}
 
 -- The test of the order of integers.
-more-of-test : (x y : ℤ) → leZ x y ≡ true → More x y
+pub more-of-test : (x y : ℤ) → leZ x y ≡ true → More x y
 more-of-test x y e = let (k, h) = max-above-left x y in (k, sym (ap (λ t. cond t y x) e) ∙ h)
 
-more-of-failed : (x y : ℤ) → leZ x y ≡ false → More y x
+pub more-of-failed : (x y : ℤ) → leZ x y ≡ false → More y x
 more-of-failed x y e = let (k, h) = max-above-right x y in (k, sym (ap (λ t. cond t y x) e) ∙ h)
 
 test-self : (x : ℤ) → leZ x x ≡ true
 test-self (pos n) = true-iff _ .1 (le→leb n n (le-refl n))
 test-self (negsuc n) = true-iff _ .1 (le→leb n n (le-refl n))
 
-test-of-more : (x y : ℤ) → More x y → leZ x y ≡ true
+pub test-of-more : (x y : ℤ) → More x y → leZ x y ≡ true
 test-of-more x y (k, e) = by (leZ x y) refl
   where
     by : (t : Bool) → leZ x y ≡ t → leZ x y ≡ true

@@ -2,6 +2,7 @@
 --   is-zero-iff                                  a number of K is 0
 --   some-below-iff                               some number below n passes
 --   first-below-none, first-below-some           the first that passes, if any does
+--   some-below-cong, first-below-cong            only the tests of numbers in range count
 --   FirstPlace                                   the first row that has a fault, and in it the first column
 --   first-place-none, first-place-some           which place is found, if any is
 use mathlib.Core.Path.{_≡_, refl, sym, ap, ap₂, subst, _∙_}
@@ -55,6 +56,14 @@ some-below-false-iff n test = (
   λ e i b. false-iff (test i) .1 (λ p. false-iff (some-below n test) .0 e (some-below-at n test i b p)),
   λ fails. false-iff (some-below n test) .1 (λ e. let (i, b, p) = some-below-pass n test e in false-iff (test i) .0 (fails i b) p),
 )
+
+-- Only the tests of numbers in range count.
+pub some-below-cong : (n : ℕ) (s t : ℕ → Bool) → ((i : ℕ) → i < n → s i ≡ t i) → some-below n s ≡ some-below n t
+unfolding some-below
+some-below-cong zero s t h = refl
+some-below-cong (suc n) s t h =
+    ap₂ (λ x y. elim x as (λ _. Bool) [ true ↦ true | false ↦ y ]) (h zero (zero-lt-suc n))
+    (some-below-cong n (λ i. s (suc i)) (λ i. t (suc i)) (λ i b. h (suc i) (suc-le-suc b)))
 
 -- THE FIRST NUMBER
 
@@ -115,6 +124,13 @@ first-below-some n test i = elim (first-below-cases n test) [
     λ f. h .1 ∙ ap some (first-unique n test (h .0) i (h .2) f),
   )
 ]
+
+-- Only the tests of numbers in range count.
+pub first-below-cong : (n : ℕ) (s t : ℕ → Bool) → ((i : ℕ) → i < n → s i ≡ t i) → first-below n s ≡ first-below n t
+unfolding first-below
+first-below-cong zero s t h = refl
+first-below-cong (suc n) s t h =
+    ap₂ step (h zero (zero-lt-suc n)) (first-below-cong n (λ i. s (suc i)) (λ i. t (suc i)) (λ i b. h (suc i) (suc-le-suc b)))
 
 -- THE FIRST PLACE
 

@@ -23,7 +23,8 @@ use Rattle.claim.specs.Sound.{SoundHead, SoundColumns, SoundBasis}
 use Rattle.claim.specs.Holds.{holds-orders, holds-columns, holds-entries, holds-constants}
 use Rattle.product.specs.Product.{Factors, flat-product}
 use Rattle.product.specs.Faults.{low-test, flat-low-fault, flat-order-fault}
-use Rattle.product.specs.Search.{some-below-cong, first-place-cong}
+use Rattle.laws.specs.SearchLaws.{some-below-cong}
+use Rattle.product.specs.Search.{first-place-cong}
 
 -- What the product asks of its factors.
 pub factors-of : {head : Head} {f lengths entries : List ℕ} → SoundHead head → SoundColumns head f → SoundBasis head lengths entries

@@ -2,12 +2,11 @@
 --   Fails, First             all numbers below n fail; the first that passes, or n
 --   some-below-fails, some-below-hit         what `some-below` then says
 --   first-place-fails, first-place-hit       what `first-place` then finds
---   some-below-cong, first-place-cong        only the tests of numbers in range count
-use mathlib.Core.Path.{_≡_, refl, ap₂, _∙_}
+--   first-place-cong         only the tests of numbers in range count
+use mathlib.Core.Path.{_≡_, refl, _∙_}
 use mathlib.Core.Bool.{Bool, true, false}
 use mathlib.Core.Option.{Option, none, some}
-use Prim.Native.Nat.{ℕ, zero, suc, _≤_, _<_, suc-le-suc}
-use native.Mathlib.Nat.{zero-lt-suc}
+use Prim.Native.Nat.{ℕ, _≤_, _<_}
 use native.Mathlib.Omega.{arith}
 use Rattle.rules.specs.Conditions.{some-below, first-place}
 use Rattle.laws.specs.SearchLaws.{some-below-iff, some-below-false-iff, first-place-none, first-place-some}
@@ -39,14 +38,7 @@ first-place-hit m n fault i j hi rows hj first =
     first-place-some m n fault i j .1
     (record { row = hi; column = hj; faulty = first .passes hj; rows-before = λ a b ha hb. rows a ha b hb; columns-before = first .before })
 
--- What the searches find depends on the tests of the numbers that count alone.
-pub some-below-cong : (n : ℕ) (s t : ℕ → Bool) → ((i : ℕ) → i < n → s i ≡ t i) → some-below n s ≡ some-below n t
-unfolding some-below
-some-below-cong zero s t h = refl
-some-below-cong (suc n) s t h =
-    ap₂ (λ x y. elim x as (λ _. Bool) [ true ↦ true | false ↦ y ]) (h zero (zero-lt-suc n))
-    (some-below-cong n (λ i. s (suc i)) (λ i. t (suc i)) (λ i b. h (suc i) (suc-le-suc b)))
-
+-- What the search finds depends on the tests of the numbers that count alone.
 pub first-place-cong : (m n : ℕ) (s t : ℕ → ℕ → Bool) → ((i j : ℕ) → i < m → j < n → s i j ≡ t i j) → first-place m n s ≡ first-place m n t
 first-place-cong m n s t h = go (first-place m n t) refl
   where
