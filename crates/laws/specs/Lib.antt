@@ -31,3 +31,4 @@ pub mod ChoiceLocal
 pub mod ListedLaws
 pub mod MakerLaws
 pub mod MakerPasses
+pub mod MakeBasisLaws

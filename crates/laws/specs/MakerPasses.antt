@@ -5,7 +5,7 @@
 --   after-passed             what is made after k steps is passed
 --   steps-done-least, steps-done-most          how many steps are done
 --   made-valid, made-passed, made-read, made-file-passed       what is made is within its sizes, is passed, and so are the files written
---   nothing-made             with 0 steps
+--   identity-made, nothing-made        with 0 steps
 use mathlib.Core.Path.{_≡_, refl, sym, ap, ap₂, subst, fun-ext, _∙_}
 use mathlib.Core.Bool.{Bool, true, false, cond}
 use mathlib.Core.List.{List, [], _∷_}
@@ -306,6 +306,11 @@ module _ (b : Problem) (valid : ValidProblem b) where
         ∙ sym (ap (λ t. cond t (1 ∷ []) []) (false-iff (eqb i j) .1 (λ e. ne (eqb-iff i j .0 e))))
   ]
 
+  -- "With 0 steps P is the identity": its entries.
+  pub identity-made : basis-after b 0 ≡ table (b .m) (λ i. table (b .m) (λ j. cond (eqb i j) (1 ∷ []) []))
+  unfolding basis-after list-matrix
+  identity-made = ap (table (b .m)) (fun-ext (λ i. ap (table (b .m)) (fun-ext (listed-unit i))))
+
   -- Nothing is left of F …
   nothing-left : (i j k : ℕ) → getD (at (cut-problem b 0 .F) j i) k 0 ≡ 0
   unfolding cut-problem
@@ -332,11 +337,11 @@ module _ (b : Problem) (valid : ValidProblem b) where
         answer = record { P = table (b .m) (λ i. table (b .m) (λ j. cond (eqb i j) (1 ∷ []) [])); C = table (b .m) (λ i. table (b .n) (λ j. 0)) };
         done = 0;
       }
-  unfolding make-answer answer-after basis-after list-matrix evidence-of steps-done cut-problem
+  unfolding make-answer answer-after evidence-of steps-done cut-problem
   nothing-made =
       ap (λ d. record { answer = answer-after b d; done = d }) none-done
       ∙ ap₂ (λ P C. record { answer = record { P = P; C = C }; done = 0 })
-      (ap (table (b .m)) (fun-ext (λ i. ap (table (b .m)) (fun-ext (listed-unit i)))))
+      identity-made
       (ap (table (b .m)) (fun-ext (λ i. ap (table (b .n)) (fun-ext (λ j. no-product (basis-after b 0) i j (order (cut-problem b 0) j))))))
     where
       none-done : min 0 (max-below (b .n) (order b)) ≡ 0

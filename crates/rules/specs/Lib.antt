@@ -19,4 +19,5 @@ pub mod Cases
 pub mod Requested
 pub mod DrawnCases
 pub mod Maker
+pub mod MakeBasis
 pub mod MakerCases

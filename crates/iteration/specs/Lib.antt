@@ -1,0 +1,3 @@
+pub mod NextRows
+pub mod After
+pub mod Steps
