@@ -5,12 +5,24 @@ ghost use Prim.Native.Nat.{_^_, _≤_, _<_};
 ghost use lib.IntN.{pos, natAbs, _+ℤ_};
 ghost use lib.ListN.{length};
 ghost use Rattle.rules.specs.Sizes.{most-rows, most-order};
-ghost use Rattle.claim.specs.Sound.{SoundHead};
+ghost use Rattle.laws.specs.Valid.{ValidProblem};
+ghost use Rattle.claim.specs.Claims.{problem-of};
+ghost use Rattle.claim.specs.Sound.{SoundHead, SoundColumns};
 ghost use Rattle.pivots.specs.Order.{Small};
 ghost use Rattle.stepping.specs.Filled.{Kept};
 ghost use Rattle.iteration.specs.After.{Residuals, Raised};
 ghost use Rattle.iteration.specs.Steps.{residual-number, Steps};
+ghost use Rattle.iteration.specs.Made.{EntriesAfter, BasisAfter};
+
+mod measure;
+mod start;
+
+use crate::measure::lengths;
+use crate::start::identity;
+use crate::start::products;
+use claim::Basis;
 use claim::Head;
+use layout::COLUMN_COEFFICIENTS;
 use layout::ENTRY_COEFFICIENTS;
 use layout::ORDER;
 use layout::ROWS;
@@ -100,4 +112,38 @@ fn step(
     step_rows(entries, &moves, &factors, p, m, m, 0, k + 2);
     step_rows(products, &moves, &factors, p, m, n, k + 1, ORDER);
     raise(degrees, &moves, m);
+}
+
+// head, f: of a problem. done: a number of steps, at most the largest order that is allowed.
+// The coefficients of P after so many steps.
+fn entries_after(
+    head: Head,
+    f: &[u32; COLUMN_COEFFICIENTS],
+    done: usize,
+) -> [u32; ENTRY_COEFFICIENTS]
+    requires { ⌜ SoundHead head × (SoundColumns head (now f) × ValidProblem (problem-of head (now f))) ⌝ }
+    requires { ⌜ done ≤ most-order ⌝ }
+    ensures { λ r. ⌜ EntriesAfter (problem-of head (now (f .entry))) done r ⌝ }
+{
+    let mut entries = identity(head.m);
+    let mut product = products(f);
+    let mut degrees = head.shifts;
+    let mut k = 0;
+    while k < done {
+        step(head, k, &mut entries, &mut product, &mut degrees);
+        k += 1;
+    }
+    entries
+}
+
+// head, f: of a problem. done: a number of steps, at most the largest order that is allowed.
+// P after so many steps.
+pub fn basis_after(head: Head, f: &[u32; COLUMN_COEFFICIENTS], done: usize) -> Basis
+    requires { ⌜ SoundHead head × (SoundColumns head (now f) × ValidProblem (problem-of head (now f))) ⌝ }
+    requires { ⌜ done ≤ most-order ⌝ }
+    ensures { λ r. ⌜ BasisAfter (problem-of head (now (f .entry))) done (r .lengths) (r .entries) ⌝ }
+{
+    let entries = entries_after(head, f, done);
+    let lengths = lengths(&entries);
+    Basis { lengths, entries }
 }

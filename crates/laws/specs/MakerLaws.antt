@@ -56,7 +56,7 @@ module _ (b : Problem) (valid : ValidProblem b) where
   after-valid (suc k) h = list-matrix-valid b positive (suc (suc k)) _ (omega arith)
 
   -- … it stands for the identity after 0 steps, …
-  after-none : Same (Series (K (b .p))) (b .m) (b .m) (unit (Series (K (b .p)))) (series-after zero)
+  pub after-none : Same (Series (K (b .p))) (b .m) (b .m) (unit (Series (K (b .p)))) (series-after zero)
   unfolding basis-after
   after-none = list-matrix-entries b positive 1 (unit (Series (K (b .p)))) (λ i j hi hj.
       subst (Below (K (b .p)) 1) (sym (unit-related (K (b .p)) (Series (K (b .p))) (λ a f. f ≡ constant (K (b .p)) a) (constants-related (K (b .p))) i j))

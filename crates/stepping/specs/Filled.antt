@@ -39,7 +39,7 @@ pub record Kept (p : ℕ) (l : List ℕ) : Type 0 where
   pub below : Each p l
 
 -- Places of coefficients differ where their rows, columns or powers do, and are within the list.
-places-differ : (i j t a b s : ℕ) → j < most-rows → b < most-rows → t < most-length → s < most-length
+pub places-differ : (i j t a b s : ℕ) → j < most-rows → b < most-rows → t < most-length → s < most-length
     → (i ≡ a → j ≡ b → t ≢ s) → entry-place i j t ≢ entry-place a b s
 unfolding entry-place square-place most-rows most-length
 places-differ i j t a b s hj hb ht hs ne e =
