@@ -23,6 +23,7 @@ pub mod WriterLaws
 pub mod EvidenceLaws
 pub mod ReadLengths
 pub mod VerdictLaws
+pub mod PreparedLaws
 pub mod PartLaws
 pub mod FindLaws
 pub mod RowOrder

@@ -12,6 +12,7 @@ pub mod Table
 pub mod Evidence
 pub mod Part
 pub mod Drawn
+pub mod Prepared
 pub mod Print
 pub mod Inverse
 pub mod Run
