@@ -6,6 +6,7 @@
  * other round in the opposite order, since the first finds the claims out of the cache; the times are medians over the rounds, and a
  * ratio is the median of the rounds' ratios.
  */
+#include "basis.h"
 #include "board.h"
 #include "drawn.h"
 #include "inverse.h"
@@ -228,6 +229,7 @@ int main(void)
 #ifdef WITH_EARLIER
     print_inverse("earlier", earlier_judge);
 #endif
+    differences += print_bases();
     for (int b = 0; b < BUNDLES; b++)
         free(files[b]);
     return differences == 0 ? 0 : 1;

@@ -182,12 +182,21 @@ static bool read_answer(struct reader *r, struct claim *c, bool with_evidence)
     return (!with_evidence || read_evidence(r, c)) && ended(r);
 }
 
+uint64_t read_problem_alone(struct claim *claim, const uint8_t *problem, size_t problem_len, bool (*is_prime)(uint32_t))
+{
+    struct reader r = {.bytes = problem, .length = problem_len};
+    return read_problem(&r, claim, is_prime) ? 0 : r.refusal;
+}
+
+uint64_t read_answer_alone(struct claim *claim, const uint8_t *answer, size_t answer_len, bool with_evidence)
+{
+    struct reader r = {.bytes = answer, .length = answer_len, .file = 1};
+    return read_answer(&r, claim, with_evidence) ? 0 : r.refusal;
+}
+
 uint64_t read_claim(struct claim *claim, const uint8_t *problem, size_t problem_len, const uint8_t *answer, size_t answer_len,
                     bool with_evidence, bool (*is_prime)(uint32_t))
 {
-    struct reader p = {.bytes = problem, .length = problem_len};
-    if (!read_problem(&p, claim, is_prime))
-        return p.refusal;
-    struct reader a = {.bytes = answer, .length = answer_len, .file = 1};
-    return read_answer(&a, claim, with_evidence) ? 0 : a.refusal;
+    uint64_t refusal = read_problem_alone(claim, problem, problem_len, is_prime);
+    return refusal != 0 ? refusal : read_answer_alone(claim, answer, answer_len, with_evidence);
 }

@@ -30,6 +30,10 @@ struct claim {
 /* A verdict as the host gets it. */
 uint64_t packed(unsigned code, unsigned file, unsigned record, size_t at);
 
+/* Reads the problem alone, or the answer to one that was read. Each gives 0, or the packed refusal with code 1 to 8. */
+uint64_t read_problem_alone(struct claim *claim, const uint8_t *problem, size_t problem_len, bool (*is_prime)(uint32_t));
+uint64_t read_answer_alone(struct claim *claim, const uint8_t *answer, size_t answer_len, bool with_evidence);
+
 /* Reads both files. Gives 0, or the packed refusal with code 1 to 8. Without evidence the answer ends after its last `PE`. */
 uint64_t read_claim(struct claim *claim, const uint8_t *problem, size_t problem_len, const uint8_t *answer, size_t answer_len,
                     bool with_evidence, bool (*is_prime)(uint32_t));

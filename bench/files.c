@@ -54,6 +54,20 @@ static uint8_t *put_evidence(uint8_t *at, const struct claim *c)
     return at;
 }
 
+void write_answer(const struct claim *claim, uint8_t *answer)
+{
+    put_evidence(put_entries(answer, claim), claim);
+}
+
+size_t answer_bytes(const struct claim *claim)
+{
+    int coefficients = 0;
+    for (int i = 0; i < claim->m; i++)
+        for (int j = 0; j < claim->m; j++)
+            coefficients += claim->length[i][j];
+    return (size_t)(5 * claim->m * claim->m + 4 * coefficients + 2 + 4 * claim->m * claim->n);
+}
+
 void write_files(const struct claim *claim, struct files *files)
 {
     files->problem_len = (size_t)(put_problem(files->problem, claim) - files->problem);

@@ -14,4 +14,8 @@ struct files {
 /* Lays a claim out in two files. It is not looked at: a claim that breaks the rules gives files that break them. */
 void write_files(const struct claim *claim, struct files *files);
 
+/* The answer alone, with its evidence, and how many bytes it has. */
+void write_answer(const struct claim *claim, uint8_t *answer);
+size_t answer_bytes(const struct claim *claim);
+
 #endif

@@ -6,6 +6,7 @@
  */
 #include "claim.h"
 #include "judges.h"
+#include "plain.h"
 
 #include <string.h>
 
@@ -51,7 +52,7 @@ static bool strong(uint32_t p, uint32_t base)
 }
 
 /* Division by small primes settles most numbers. No composite below 3,215,031,751 passes Miller's test for all of 2, 3, 5 and 7. */
-static bool is_prime(uint32_t p)
+bool is_prime(uint32_t p)
 {
     static const uint32_t small[] = {2, 3, 5, 7, 11, 13, 17, 19, 23, 29, 31, 37};
     if (p < 2)
@@ -66,7 +67,7 @@ static bool is_prime(uint32_t p)
 }
 
 /* Extended Euclid; a is not 0. */
-static uint32_t inverse(uint32_t a, uint32_t p)
+uint32_t inverse(uint32_t a, uint32_t p)
 {
     int64_t r0 = p, r1 = a, t0 = 0, t1 = 1;
     while (r1 != 0) {
@@ -179,7 +180,7 @@ static bool is_monomial(const struct polynomial *f)
     return nonzero == 1;
 }
 
-static uint32_t product_at(const struct claim *c, int i, int j, int power)
+uint32_t product_at(const struct claim *c, int i, int j, int power)
 {
     uint64_t square = (uint64_t)c->p * c->p, sum = 0;
     for (int t = 0; t < c->m; t++) {

@@ -1,7 +1,8 @@
 /*
- * A host for the board: judges two files, makes the evidence for an answer that has none yet, or tests an answer with drawn numbers.
+ * A host for the board: judges two files, makes the evidence for an answer that has none yet, tests an answer with drawn numbers, or makes one.
  *
  *     host PROBLEM ANSWER                 prints `pass D`, or `refuse CODE FILE RECORD AT`
+ *     host --basis STEPS PROBLEM          makes an answer, prints `basis CODE FILE RECORD AT` and, where it was made, its bytes in hex
  *     host --evidence PROBLEM ANSWER      prints `evidence CODE FILE RECORD AT` and, where it was made, the record's bytes in hex
  *     host --drawn U... POINT PROBLEM ANSWER      prints `drawn CODE FILE RECORD AT`, for at most four numbers u and a point
  *
@@ -55,16 +56,33 @@ static int print_verdict(const struct file *problem, const struct file *answer)
     return 1;
 }
 
+static int print_made(const char *word, uint64_t verdict, const uint8_t *bytes)
+{
+    bool made = board_code(verdict) == BOARD_PASS;
+    print_numbers(word, verdict);
+    for (uint32_t i = 0; made && i < board_at(verdict); i++)
+        printf(" %02x", bytes[i]);
+    printf("\n");
+    return made ? 0 : 1;
+}
+
 static int print_evidence(const struct file *problem, const struct file *answer)
 {
     uint8_t record[BOARD_EVIDENCE_MOST];
     uint64_t verdict = make_evidence(problem->bytes, problem->length, answer->bytes, answer->length, record, sizeof record);
-    bool made = board_code(verdict) == BOARD_PASS;
-    print_numbers("evidence", verdict);
-    for (uint32_t i = 0; made && i < board_at(verdict); i++)
-        printf(" %02x", record[i]);
-    printf("\n");
-    return made ? 0 : 1;
+    return print_made("evidence", verdict, record);
+}
+
+static int print_basis(const char *steps, const char *name)
+{
+    static struct file problem;
+    uint8_t answer[BOARD_ANSWER_MOST];
+    if (!read_file(name, &problem)) {
+        printf("nofile 0\n");
+        return 2;
+    }
+    uint64_t verdict = make_basis(problem.bytes, problem.length, (uint32_t)strtoul(steps, NULL, 10), answer, sizeof answer);
+    return print_made("basis", verdict, answer);
 }
 
 /* The numbers are the words: some of u, the rest of which is 0, and the point. */
@@ -83,6 +101,8 @@ static int print_drawn(char **words, int count, const struct file *problem, cons
 int main(int argc, char **argv)
 {
     static struct file problem, answer;
+    if (argc > 2 && strcmp(argv[1], "--basis") == 0)
+        return print_basis(argv[2], argc > 3 ? argv[3] : NULL);
     bool evidence = argc > 1 && strcmp(argv[1], "--evidence") == 0;
     bool drawn = argc > 5 && strcmp(argv[1], "--drawn") == 0;
     int first = evidence ? 2 : drawn ? argc - 2 : 1;

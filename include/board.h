@@ -9,6 +9,7 @@
  *
  *     code        file                    record               at
  *     0           0                       0                    judge: the degree sum; make_evidence: the bytes written
+ *     0           0                       steps done           make_basis: the bytes written
  *     1 to 8      0 problem, 1 answer     record, from 0       offset of the field in that file, from 0
  *     9, 10, 13   0                       0                    0
  *     11, 12      2                       row, from 0          column, from 0
@@ -35,7 +36,7 @@ extern "C" {
 
 /* What was found. The first that applies is given: 1 to 8 in reading order, then the others by number. */
 enum board_verdict {
-    BOARD_PASS = 0,         /* the answer is a reduced basis for the problem; or the evidence is made */
+    BOARD_PASS = 0,         /* the answer is a reduced basis for the problem; or the evidence, or the answer, is made */
     BOARD_CUT = 1,          /* a field runs past the end of its file */
     BOARD_MARK = 2,         /* a record does not start with the mark that is due */
     BOARD_SIZE = 3,         /* m, n, an order, a shift or a count of coefficients is outside its size */
@@ -49,19 +50,30 @@ enum board_verdict {
     BOARD_PRODUCT = 11,     /* P times F has a coefficient other than 0 below the order */
     BOARD_EVIDENCE = 12,    /* the evidence C differs from the coefficient of P times F at the order */
     BOARD_RANK = 13,        /* the rank of P(0) with C beside it is too low: P generates too little */
-    BOARD_BUFFER = 14,      /* make_evidence only: the buffer is too short, `at` has the bytes needed */
+    BOARD_BUFFER = 14,      /* make_evidence and make_basis: the buffer is too short, `at` has the bytes needed */
     BOARD_DRAWN_LARGE = 16, /* judge_drawn only: a drawn number is p or more */
     BOARD_TURNED_AWAY = 255 /* judge_drawn only, and no verdict: P times F has a fault of 11 or 12 */
 };
 
 /* The most bytes that make_evidence writes: a buffer of this length is never too short. */
 #define BOARD_EVIDENCE_MOST 66
+/* The same of make_basis. */
+#define BOARD_ANSWER_MOST 1234
 
 /* The numbers of u in judge_drawn. */
 #define BOARD_DRAWN 4
 
 /* Judges an answer to a problem, both as whole files in memory, and returns the verdict. */
 uint64_t judge(const uint8_t *problem, size_t problem_len, const uint8_t *answer, size_t answer_len);
+
+/*
+ * Makes an answer to a problem, order step by order step, and stops after `steps` of them or when the largest order is reached. With code 0
+ * the buffer starts with the answer's file, `record` is the number of steps done, `at` is the file's length, and every byte after it is as
+ * before. With any other code, 1 to 8 of the problem or 14, every byte of the buffer is as before. With all steps done the judge passes the
+ * answer. With fewer, at least one, it passes it for the same problem with each order replaced by the smaller of it and the steps done, and F
+ * cut to match; with none the answer is the identity, and nothing is claimed of it. The buffer shares no byte with the problem.
+ */
+uint64_t make_basis(const uint8_t *problem, size_t problem_len, uint32_t steps, uint8_t *buffer, size_t buffer_len);
 
 /*
  * Makes the record `CE` for an answer that ends after its last record `PE`. With code 0 the buffer starts with the record, `at` is its
@@ -91,7 +103,7 @@ static inline unsigned board_file(uint64_t verdict)
     return (unsigned)(verdict >> 8 & 0xFF);
 }
 
-/* Where: the record in the file, or the row in the product. */
+/* Where: the record in the file, or the row in the product; or the steps done by make_basis. */
 static inline unsigned board_record(uint64_t verdict)
 {
     return (unsigned)(verdict >> 16 & 0xFFFF);

@@ -1,11 +1,13 @@
-"""Wrong judges: the second program with one place changed each. Says for each in
-how many cases of a bundle its output differs from the right one; fails if some
-wrong judge differs in none. Then judges that say the same in other words, which
-have to differ in none, and wrong answers by drawn numbers. Run from the top of the project:
+"""Wrong judges and wrong makers: the second program with one place changed
+each. Says for each in how many cases of a bundle, or of the bases asked for, its
+output differs from the right one; fails if some wrong one differs in none. And
+judges and makers that say the same in other words, which have to differ in
+none. Wrong answers by drawn numbers too. Run from the top of the project:
 
     python3 second/wrong.py [SEED [COUNT [WORD ...]]]
 
-WORDs choose the wrong judges by name. Five to ten minutes for all of them.
+WORDs choose them by name; the names of makers begin with `made`. Ten to fifteen
+minutes for all of them.
 """
 import os, shutil, subprocess, sys, tempfile
 
@@ -107,24 +109,93 @@ SAME = [
 ('negative power without its sign',[LEADING,('verdict.rs',AT_POWER,'poly::coefficient(e, power.unsigned_abs() as usize)')]),
 ]
 # wrong answers by drawn numbers
-CUT = 'e.truncate(problem.d[j] + 1);'
-READ = 'd.u[..problem.m].iter().chain([&d.point])'
-COLUMNS = 'for j in 0..problem.n {'
+DRAWN_CUT = 'e.truncate(problem.d[j] + 1);'
+DRAWN_READ = 'd.u[..problem.m].iter().chain([&d.point])'
+DRAWN_COLUMNS = 'for j in 0..problem.n {'
 DRAWN = [
 ('drawn: C left out',[('drawn.rs','poly::sub(&e, &c, problem.p)','poly::sub(&e, &poly::scaled(&c, 0, 0, problem.p), problem.p)')]),
 ('drawn: C added',[('drawn.rs','poly::sub(&e, &c, problem.p)','poly::add(&e, &c, problem.p)')]),
-('drawn: order left out',[('drawn.rs',CUT,'e.truncate(problem.d[j]);')]),
-('drawn: one power far',[('drawn.rs',CUT,'e.truncate(problem.d[j] + 2);')]),
-('drawn: never cut',[('drawn.rs',CUT,'')]),
+('drawn: order left out',[('drawn.rs',DRAWN_CUT,'e.truncate(problem.d[j]);')]),
+('drawn: one power far',[('drawn.rs',DRAWN_CUT,'e.truncate(problem.d[j] + 2);')]),
+('drawn: never cut',[('drawn.rs',DRAWN_CUT,'')]),
 ('drawn: number before reading',[('drawn.rs','    let (problem, answer) = match both(&d.problem, &d.answer) {','    if d.point == u32::MAX { return Ok([16, 2, 0, 0]); }\n    let (problem, answer) = match both(&d.problem, &d.answer) {')]),
-('drawn: number m of u tested',[('drawn.rs',READ,'d.u[..(problem.m + 1).min(ROWS)].iter().chain([&d.point])')]),
-('drawn: point not tested',[('drawn.rs',READ,'d.u[..problem.m].iter()')]),
+('drawn: number m of u tested',[('drawn.rs',DRAWN_READ,'d.u[..(problem.m + 1).min(ROWS)].iter().chain([&d.point])')]),
+('drawn: point not tested',[('drawn.rs',DRAWN_READ,'d.u[..problem.m].iter()')]),
 ('drawn: p taken',[('drawn.rs','**x as u64 >= problem.p','**x as u64 > problem.p')]),
-('drawn: point before u',[('drawn.rs',READ,'[&d.point].into_iter().chain(&d.u[..problem.m])')]),
-('drawn: first column alone',[('drawn.rs',COLUMNS,'for j in 0..1 {')]),
-('drawn: last column alone',[('drawn.rs',COLUMNS,'for j in problem.n - 1..problem.n {')]),
+('drawn: point before u',[('drawn.rs',DRAWN_READ,'[&d.point].into_iter().chain(&d.u[..problem.m])')]),
+('drawn: first column alone',[('drawn.rs',DRAWN_COLUMNS,'for j in 0..1 {')]),
+('drawn: last column alone',[('drawn.rs',DRAWN_COLUMNS,'for j in problem.n - 1..problem.n {')]),
 ('drawn: last row left out',[('drawn.rs','(0..problem.m).fold(0, |sum, i| {','(0..problem.m - 1).fold(0, |sum, i| {'),('drawn.rs','(0..problem.m).fold(Vec::new(), |sum, i| {','(0..problem.m - 1).fold(Vec::new(), |sum, i| {')]),
 ('drawn: one power of the point more',[('drawn.rs','(0, 1 % p);','(0, point % p);')]),
+]
+# the checks of what is made are left out of the wrong makers, and that pivots are independent and rows other than 0
+BASE_MAKER = [
+    ('maker.rs','    checked(&problem, &made)?;\n',''),
+    ('maker.rs','.filter(|n| *n <= 700)?;','.filter(|n| *n == 0)?;'),
+    ('maker.rs','return Err("the residuals of the pivots depend on each other".into());','return Ok(None);'),
+    ('maker.rs','.expect("a row of a basis has a degree")','.unwrap_or(0)'),
+]
+BY_DEGREE = 'rows.sort_by_key(|i| (degree(*i), *i));'
+ACTIVE = '(0..problem.n).filter(|j| problem.d[*j] > k).collect()'
+CUT = 'evidence(&cut(problem, done).as_problem(), &basis)'
+DONE = '(steps as usize).min(*problem.d.iter().max().unwrap())'
+SUBTRACTED = '''                for (q, c) in pivots.iter().zip(u) {
+                    for (e, by) in next[i].iter_mut().zip(&basis[*q]) {'''
+PIVOT = '            None => pivots.push(i),'
+CLEARED = '''            None => {
+                if let Some(&q) = pivots.first() {
+                    let j = residual[q].iter().position(|x| *x != 0).unwrap();
+                    let c = field::mul(residual[i][j], field::inverse(residual[q][j], p), p);
+                    for (e, by) in next[i].iter_mut().zip(&basis[q]) {
+                        *e = poly::sub(e, &poly::scaled(by, c, 0, p), p);
+                    }
+                }
+                pivots.push(i)
+            }'''
+RAISED = '            *e = poly::scaled(e, 1, 1, p);'
+NO_ROOM = '        return Ok([14, 0, 0, file.len() as u64]);'
+WRITTEN = '    lent[..file.len()].copy_from_slice(&file);'
+WRONG_MAKERS = [
+('made: ties by larger row number',[('maker.rs',BY_DEGREE,'rows.sort_by_key(|i| (degree(*i), basis.len() - i));')]),
+('made: ties to the row of the smallest shift',[('maker.rs',BY_DEGREE,'rows.sort_by_key(|i| (degree(*i), s[*i], *i));')]),
+('made: highest degree first',[('maker.rs',BY_DEGREE,'rows.sort_by_key(|i| (-degree(*i), *i));')]),
+('made: by row number alone',[('maker.rs',BY_DEGREE,'rows.sort_by_key(|i| (0 * degree(*i), *i));')]),
+('made: by the shifts alone',[('maker.rs',BY_DEGREE,'rows.sort_by_key(|i| (0 * degree(*i) + s[*i], *i));')]),
+('made: degrees without the shift',[('maker.rs','verdict::row_degree(&basis[i], s)','verdict::row_degree(&basis[i], &vec![0; s.len()])')]),
+('made: zero entry of degree 0',[('maker.rs','verdict::row_degree(&basis[i], s)','basis[i].iter().zip(s).map(|(e, s)| (e.len() as i64 - 1).max(0) + s).max()')]),
+('made: C of the uncut F',[('maker.rs',CUT,'{ let power = cut(problem, done).d; basis.iter().map(|row| plain::times_f(problem, row)).map(|vf| vf.iter().zip(&power).map(|(e, d)| poly::coefficient(e, *d)).collect()).collect() }')]),
+('made: C at the orders as they were',[('maker.rs',CUT,'evidence(problem, &basis)')]),
+('made: C zero',[('maker.rs',CUT,'vec![vec![0; problem.n]; problem.m]')]),
+('made: one step too many',[('maker.rs','    for k in 0..done {','    for k in 0..done + 1 {')]),
+('made: one step too few',[('maker.rs','    for k in 0..done {','    for k in 0..done.max(1) - 1 {')]),
+('made: steps from 1',[('maker.rs','step(problem, &basis, k)?','step(problem, &basis, k + 1)?')]),
+('made: steps modulo 256',[('maker.rs','steps as usize','steps as u8 as usize')]),
+('made: steps signed',[('maker.rs','(steps as usize)','((steps as i32).max(0) as usize)')]),
+('made: up to the smallest order',[('maker.rs',DONE,DONE.replace('max()','min()'))]),
+('made: as many steps as allowed',[('maker.rs','Ok([0, 0, made.done as u64,','Ok([0, 0, steps as u64 & 65_535,')]),
+('made: finished columns still eliminated',[('maker.rs',ACTIVE,'(0..problem.n).collect()')]),
+('made: first column alone',[('maker.rs',ACTIVE,'(0..1).filter(|j| problem.d[*j] > k).collect()')]),
+('made: only a zero residual depends',[('maker.rs','        match combination(&rows, &residual[i], p)? {','        match combination(&rows, &residual[i], p)?.filter(|_| residual[i].iter().all(|x| *x == 0)) {')]),
+('made: added, not subtracted',[('maker.rs','*e = poly::sub(e, &poly::scaled(by, c, 0, p), p);','*e = poly::add(e, &poly::scaled(by, c, 0, p), p);')]),
+('made: pivots raised before they are subtracted',[('maker.rs','poly::scaled(by, c, 0, p)','poly::scaled(by, c, 1, p)')]),
+('made: last pivot alone subtracted',[('maker.rs',SUBTRACTED,SUBTRACTED.replace('pivots.iter().zip(u)','pivots.iter().zip(u).rev().take(1)'))]),
+('made: pivots cleared by the first',[('maker.rs',PIVOT,CLEARED)]),
+('made: pivots scaled to residual 1',[('maker.rs',RAISED,'            let c = field::inverse(*residual[i].iter().find(|x| **x != 0).unwrap(), p); *e = poly::scaled(e, c, 1, p);')]),
+('made: pivots first',[('maker.rs','    for i in pivots {','    let front: Vec<usize> = pivots.iter().copied().chain((0..next.len()).filter(|i| !pivots.contains(i))).collect();\n    for i in pivots {'),('maker.rs','    Ok(next)\n','    Ok(front.into_iter().map(|i| next[i].clone()).collect())\n')]),
+('made: no 14',[('maker.rs',NO_ROOM,'        return Ok([0, 0, made.done as u64, file.len() as u64]);')]),
+('made: 14 off by one',[('maker.rs','if lent.len() < file.len()','if lent.len() <= file.len()')]),
+('made: 14 with the steps done',[('maker.rs','[14, 0, 0, file','[14, 0, made.done as u64, file')]),
+('made: writes before 14',[('maker.rs',NO_ROOM,'        let n = lent.len(); lent.copy_from_slice(&file[..n]);\n'+NO_ROOM)]),
+('made: zeroes behind',[('maker.rs',WRITTEN,'    lent.fill(0);\n'+WRITTEN)]),
+('made: the longest file needed',[('maker.rs','if lent.len() < file.len()','if lent.len() < 1234')]),
+('made: 14 before 1 to 8',[('maker.rs','    let problem = match read::problem(problem_file) {','    if lent.len() < 17 { return Ok([14, 0, 0, 17]); }\n    let problem = match read::problem(problem_file) {')]),
+('made: no evidence',[('maker.rs','claim.answer(true).bytes','claim.answer(false).bytes')]),
+]
+# the same basis: a combination is subtracted from a row, or its opposite added; the whole F, or F cut from the start
+SAME_MAKERS = [
+('made: the opposite added',[('maker.rs','*e = poly::sub(e, &poly::scaled(by, c, 0, p), p);','*e = poly::add(e, &poly::scaled(by, (p - c) % p, 0, p), p);')]),
+('made: F cut from the start',[('maker.rs','basis = step(problem, &basis, k)?','basis = step(&cut(problem, done).as_problem(), &basis, k)?')]),
+('made: at most 16 steps',[('maker.rs','(steps as usize)','(steps.min(16) as usize)')]),
 ]
 QUIET = ['top coefficient and leading determinant differ', 'the two ranks differ',
          'the determinant has a power above the degree sum', 'a row of zeros and a determinant other than 0']
@@ -150,10 +221,10 @@ def build(edits, place):
     return os.path.join(place, 'second')
 
 
-def said(program, bundle, command='expect'):
-    run = subprocess.run([program, command, bundle], capture_output=True, text=True)
+def said(program, command):
+    run = subprocess.run([program] + command, capture_output=True, text=True)
     if run.returncode:
-        sys.exit('a judge stops: ' + run.stderr)
+        sys.exit('one of them stops: ' + run.stderr)
     return run.stdout.split('\n')[:-1]
 
 
@@ -163,31 +234,29 @@ def main():
     words = sys.argv[3:]
     unseen = told_apart = 0
     with tempfile.TemporaryDirectory() as place:
-        bundle = os.path.join(place, 'bundle')
+        bundle, drawings, asked = (os.path.join(place, name) for name in ('bundle', 'drawings', 'asked'))
         right = build([], place)
         subprocess.run([right, 'make', '--seed', seed, '--count', count, '--out', bundle], check=True)
-        due = said(right, bundle)
-        for name, edits in WRONG + SAME:
-            if words and not any(w in name for w in words):
-                continue
-            got = said(build(BASE + edits, place), bundle)
-            differ = sum(due[k:k + 3] != got[k:k + 3] for k in range(0, len(due), 3))
-            same = (name, edits) in SAME
-            unseen += not same and differ == 0
-            told_apart += same and differ != 0
-            print('%-32s %d cases differ%s' % (name, differ, ', as they should' if same and differ == 0 else ''), flush=True)
-        drawings = os.path.join(place, 'drawings')
-        right = build([], place)
         subprocess.run([right, 'draw', '--seed', seed, '--count', str(2 * int(count)), '--out', drawings], check=True)
-        due = said(right, drawings, 'drawn')
-        for name, edits in DRAWN:
-            if words and not any(w in name for w in words):
-                continue
-            got = said(build(edits, place), drawings, 'drawn')
-            differ = sum(a != b for a, b in zip(due, got))
-            unseen += differ == 0
-            print('%-32s %d drawings differ' % (name, differ), flush=True)
-    print('%d wrong judges not seen, %d told apart that say the same' % (unseen, told_apart))
+        subprocess.run([right, 'maker', 'ask', '--seed', seed, '--count', count, '--out', asked], check=True)
+        # what a case takes: its lines, the command that says them, what is compared, and what the wrong ones leave out
+        judged, made = (3, ['expect', bundle], BASE), (1, ['maker', 'expect', asked], BASE_MAKER)
+        drawn = (1, ['drawn', drawings], [])
+        kinds = [(judged, WRONG, SAME), (drawn, DRAWN, []), (made, WRONG_MAKERS, SAME_MAKERS)]
+        due = {}
+        for (lines, command, base), wrong, same_words in kinds:
+            for name, edits in wrong + same_words:
+                if words and not any(w in name for w in words):
+                    continue
+                if command[0] not in due:
+                    due[command[0]] = said(build([], place), command)
+                all_due, got = due[command[0]], said(build(base + edits, place), command)
+                differ = sum(all_due[k:k + lines] != got[k:k + lines] for k in range(0, len(all_due), lines))
+                same = (name, edits) in same_words
+                unseen += not same and differ == 0
+                told_apart += same and differ != 0
+                print('%-32s %d cases differ%s' % (name, differ, ', as they should' if same and differ == 0 else ''), flush=True)
+    print('%d wrong ones not seen, %d told apart that say the same' % (unseen, told_apart))
     sys.exit(1 if unseen or told_apart else 0)
 
 

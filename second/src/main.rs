@@ -1,10 +1,12 @@
 //! A second judge of claimed bases, written from the rules alone, and a maker
 //! of cases for the test program `cases`.
 
+mod asking;
 mod claim;
 mod drawn;
 mod field;
 mod make;
+mod maker;
 mod plain;
 mod poly;
 mod random;
@@ -19,6 +21,7 @@ use std::sync::atomic::Ordering;
 
 const USAGE: &str = "usage:
   second make --seed S --count N --out BUNDLE [--cut B]
+  second maker ask|expect|check|counts ...
   second expect BUNDLE
   second check BUNDLE OUTPUT
   second counts BUNDLE
@@ -389,6 +392,7 @@ fn main() -> ExitCode {
     let names: Vec<&str> = arguments.iter().map(|s| s.as_str()).collect();
     let done = match names.as_slice() {
         ["make", ..] => make(&arguments[1..]).map(|_| true),
+        ["maker", ..] => asking::run(&arguments[1..]),
         ["expect", bundle] => expect(bundle).map(|_| true),
         ["check", bundle, output] => check(bundle, output),
         ["counts", bundle] => counts(bundle).map(|_| true),

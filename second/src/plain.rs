@@ -86,7 +86,7 @@ fn entry(problem: &Problem, i: usize, j: usize) -> Poly {
 }
 
 /// vF, whole.
-fn times_f(problem: &Problem, v: &[Poly]) -> Vec<Poly> {
+pub fn times_f(problem: &Problem, v: &[Poly]) -> Vec<Poly> {
     (0..problem.n)
         .map(|j| {
             (0..problem.m).fold(Vec::new(), |t, i| {
@@ -101,7 +101,7 @@ fn vanishes(problem: &Problem, vf: &[Poly]) -> bool {
 }
 
 /// One row for each X^k e_i, k < D: the coefficients of X^k F_i below the orders.
-fn table(problem: &Problem) -> Vec<Vec<u64>> {
+pub fn table(problem: &Problem) -> Vec<Vec<u64>> {
     let largest = *problem.d.iter().max().unwrap();
     let mut rows = Vec::new();
     for i in 0..problem.m {

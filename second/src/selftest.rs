@@ -3,6 +3,7 @@
 use crate::claim::{Claim, Kind};
 use crate::field;
 use crate::make;
+use crate::maker;
 use crate::plain;
 use crate::poly::{self, Matrix, Poly};
 use crate::random::Random;
@@ -481,6 +482,9 @@ pub fn run() -> bool {
     true_bases(&mut t, "sparse", make::sparse, &mut random);
     tiny(&mut t);
     bundles(&mut t);
+    for (what, right) in maker::checks(&mut random) {
+        t.is(&what, right);
+    }
     println!("{} passed, {} failed", t.passed, t.failed);
     t.failed == 0
 }

@@ -252,7 +252,7 @@ pub fn make_evidence(problem_file: &[u8], answer_file: &[u8], lent: &mut [u8]) -
     Verdict { code, file: 0, record: 0, at: need as u64, part: (1, 0, 0) }
 }
 
-fn hex(bytes: &[u8], line: &mut String) {
+pub fn hex(bytes: &[u8], line: &mut String) {
     const DIGITS: &[u8; 16] = b"0123456789abcdef";
     line.reserve(2 * bytes.len());
     for b in bytes {

@@ -4,22 +4,15 @@
  * goes into the stack. Each check prints a line only if it fails; the last line is the tally.
  */
 #include "board.h"
+#include "check.h"
 #include "files.h"
 #include "peak.h"
 #include "worked.h"
 
-#include <inttypes.h>
-#include <stdbool.h>
-#include <stdio.h>
 #include <stdlib.h>
 #include <string.h>
 
-enum { PROBLEM = 36, ANSWER = 58, WITHOUT_EVIDENCE = 48, MOST_CHANGES = 4, GUARD = 0xAA, MOST_STACK = 65536 };
-
-static const uint8_t problem[PROBLEM] = {
-    0x50, 0x52, 0x07, 0x00, 0x00, 0x00, 0x02, 0x01, 0x4F, 0x52, 0x02, 0x53, 0x48, 0x00, 0x00, 0x00, 0x00, 0x46,
-    0x43, 0x00, 0x01, 0x00, 0x00, 0x00, 0x00, 0x00, 0x00, 0x00, 0x01, 0x00, 0x00, 0x00, 0x01, 0x00, 0x00, 0x00,
-};
+enum { ANSWER = 58, WITHOUT_EVIDENCE = 48, MOST_CHANGES = 4 };
 
 static const uint8_t answer[ANSWER] = {
     0x50, 0x45, 0x00, 0x00, 0x02, 0x06, 0x00, 0x00, 0x00, 0x06, 0x00, 0x00, 0x00,             /* 6 + 6X */
@@ -28,27 +21,6 @@ static const uint8_t answer[ANSWER] = {
     0x50, 0x45, 0x01, 0x01, 0x02, 0x00, 0x00, 0x00, 0x00, 0x01, 0x00, 0x00, 0x00,             /* X */
     0x43, 0x45, 0x00, 0x00, 0x00, 0x00, 0x01, 0x00, 0x00, 0x00,                               /* C = (0, 1) */
 };
-
-static int passed, failed;
-
-static void check(bool good, const char *name)
-{
-    if (good) {
-        passed++;
-        return;
-    }
-    failed++;
-    printf("FAILED: %s\n", name);
-}
-
-static void check_verdict(uint64_t got, unsigned code, unsigned file, unsigned record, uint32_t at, const char *name)
-{
-    bool good = board_code(got) == code && board_file(got) == file && board_record(got) == record && board_at(got) == at;
-    check(good, name);
-    if (!good)
-        printf("  due %u %u %u %" PRIu32 ", got %u %u %u %" PRIu32 "\n", code, file, record, at, board_code(got), board_file(got),
-               board_record(got), board_at(got));
-}
 
 /* The example with some bytes changed, and bytes taken from or added to the end of the answer. */
 struct variant {

@@ -8,6 +8,7 @@
  * byte. Verdicts, evidence and the answers by drawn numbers are held against the plain C version, and the files have to stay as they were.
  */
 #define _DEFAULT_SOURCE
+#include "bases.h"
 #include "board.h"
 #include "judges.h"
 #include "maker.h"
@@ -81,6 +82,22 @@ static void check(bool good, const char *what, uint64_t got, uint64_t due)
                good ? "" : ", bytes that differ");
 }
 
+/* A basis, with some number of steps, in a buffer that just does, lacks a byte, or is of any length; held against the plain C version. */
+static void try_basis(const struct files *f, struct source *source, bool front)
+{
+    uint8_t due_bytes[BOARD_ANSWER_MOST + 8];
+    uint32_t steps = draw(source, 4) == 0 ? UINT32_MAX : draw(source, MOST_ORDER + 2);
+    size_t lent = draw(source, sizeof due_bytes + 1), needed = plain_make_basis(f->problem, f->problem_len, steps, due_bytes, 0) >> 32;
+    if (draw(source, 3) > 0 && 0 < needed && needed <= sizeof due_bytes)
+        lent = needed - draw(source, 2);
+    memset(due_bytes, GUARD, sizeof due_bytes);
+    memcpy(lend(&problem_room, f->problem_len, front), f->problem, f->problem_len);
+    lend(&buffer_room, lent, front);
+    uint64_t got = make_basis(problem_room.bytes, f->problem_len, steps, buffer_room.bytes, lent);
+    uint64_t due = plain_make_basis(f->problem, f->problem_len, steps, due_bytes, lent);
+    check(holds(&problem_room, f->problem) && holds(&buffer_room, due_bytes), "make_basis", got, due);
+}
+
 static void try_judge(const struct files *f, bool front)
 {
     memcpy(lend(&problem_room, f->problem_len, front), f->problem, f->problem_len);
@@ -124,6 +141,7 @@ static void try_claim(const struct files *f, struct source *source)
     try_drawn(f, source, front);
     try_evidence(f, MOST_LENT, front);
     try_evidence(f, draw(source, MOST_LENT + 1), front);
+    try_basis(f, source, front);
 }
 
 static void mutate(struct files *f, struct source *source)

@@ -16,8 +16,8 @@ use Rattle.laws.specs.MakeBasisLaws.{basis-unread-case, basis-no-room-case, bas
 use Rattle.verdict.specs.Meant.{refusal-of}
 use Rattle.claim.specs.declared.Head.{Head}
 use Rattle.claim.specs.Claims.{problem-of}
-use Rattle.reader.specs.declared.ReadProblem.{ReadProblem}
-use Rattle.reader.specs.Values.{problem-value}
+use Rattle.problem_file.specs.declared.ReadProblem.{ReadProblem}
+use Rattle.problem_file.specs.Values.{problem-value}
 use Rattle.reader.specs.Readings.{problem-off, problem-read}
 use Rattle.writer.specs.Appended.{Appended, appended-nothing, appended-unique}
 

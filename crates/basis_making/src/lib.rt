@@ -5,9 +5,10 @@ ghost use lib.ListN.{length};
 ghost use Rattle.rules.specs.Sizes.{most-order};
 ghost use Rattle.rules.specs.Writer.{write-answer};
 ghost use Rattle.rules.specs.Maker.{answer-after};
-ghost use Rattle.rules.specs.MakeBasis.{make-basis};
+ghost use Rattle.rules.specs.MakeBasis.{make-basis, basis-numbers};
 ghost use Rattle.laws.specs.Valid.{ValidProblem};
 ghost use Rattle.writer.specs.Appended.{Appended};
+ghost use Rattle.verdict.specs.Meant.{four-of};
 ghost use Rattle.claim.specs.Claims.{problem-of};
 ghost use Rattle.claim.specs.Sound.{SoundHead, SoundColumns};
 ghost use Rattle.basis_making.specs.Answer.{most-answer};
@@ -28,6 +29,7 @@ use layout::LENGTH;
 use layout::RECORD;
 use layout::SQUARE;
 use reader::read_problem;
+use verdict::Four;
 use verdict::Refusal;
 use writer::put_text;
 
@@ -81,4 +83,30 @@ pub fn basis_file(problem: &[u8], steps: u32, buffer: &mut [u8]) -> BasisReply
         return BasisReply::NoRoom(at);
     }
     BasisReply::Made(done as u16, at)
+}
+
+// The four numbers of each kind of answer.
+pub fn basis_numbers(v: BasisReply) -> Four
+    ensures { λ r. ⌜ four-of r ≡ basis-numbers (basis-meant v) ⌝ }
+{
+    match v {
+        BasisReply::Unread(r) => Four {
+            code: r.code,
+            file: r.file,
+            number: r.number,
+            at: r.at,
+        },
+        BasisReply::NoRoom(needed) => Four {
+            code: 14,
+            file: 0,
+            number: 0,
+            at: needed,
+        },
+        BasisReply::Made(steps, bytes) => Four {
+            code: 0,
+            file: 0,
+            number: steps,
+            at: bytes,
+        },
+    }
 }

@@ -7,6 +7,8 @@ use Rattle.board.proofs.make_evidence.Kinds as make-evidence-kinds
 use Rattle.board.proofs.make_evidence.Reads as make-evidence
 use Rattle.board.proofs.judge_drawn.Kinds as judge-drawn-kinds
 use Rattle.board.proofs.judge_drawn.Reads as judge-drawn
+use Rattle.board.proofs.make_basis.Kinds as make-basis-kinds
+use Rattle.board.proofs.make_basis.Reads as make-basis
 
 pub judge-unique : OneResult judge-kinds.ps judge-kinds.r judge.Asked judge.Learnt
 judge-unique κs a z z′ w w′ asked h h′ = (h ∙ sym h′, refl)
@@ -16,3 +18,6 @@ make-evidence-unique κs a z z′ w w′ asked h h′ = (h .0 ∙ sym (h′ .0),
 
 pub judge-drawn-unique : OneResult judge-drawn-kinds.ps judge-drawn-kinds.r judge-drawn.Asked judge-drawn.Learnt
 judge-drawn-unique κs a z z′ w w′ asked h h′ = (h ∙ sym h′, refl)
+
+pub make-basis-unique : OneResult make-basis-kinds.ps make-basis-kinds.r make-basis.Asked make-basis.Learnt
+make-basis-unique κs a z z′ w w′ asked h h′ = (h .0 ∙ sym (h′ .0), λ i. (tt, (tt, ((h .1 ∙ sym (h′ .1)) i, tt))))

@@ -32,7 +32,7 @@ use Rattle.claim.specs.Sound.{SoundHead, SoundColumns, SoundBasis}
 use Rattle.claim.specs.Holds.{holds-orders, holds-constants}
 use Rattle.product.specs.Product.{flat-product}
 use Rattle.product.specs.Claims.{product-rules}
-use Rattle.product.specs.Search.{some-below-cong}
+use Rattle.laws.specs.SearchLaws.{some-below-cong}
 use Rattle.drawn.specs.Horner.{horner-all}
 use Rattle.drawn.specs.Rows.{ev-sum, rows-first, cut-value}
 use Rattle.drawn.specs.Values.{combined}

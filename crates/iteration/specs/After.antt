@@ -9,14 +9,14 @@ use mathlib.Core.Logic.{_≢_, _⊎_, inl, inr}
 use mathlib.Core.Bool.{Bool, true, false}
 use mathlib.Core.List.{List, []}
 use Prim.Native.Nat.{ℕ, suc, _+_, _-_, _≤_, _<_}
-use native.Mathlib.Nat.{le-of-lt, lt-of-lt-of-le, mod-eq-of-lt}
+use native.Mathlib.Nat.{le-of-lt, lt-of-lt-of-le}
 use native.Mathlib.Decide.{decLt}
 use native.Mathlib.Omega.{arith}
 use borrow.Author.Tests.{ltb-true, ltb-false}
 use lib.Dec.{ltb}
 use lib.IntN.{ℤ, pos, natAbs, _+ℤ_, +ℤ-idr}
 use lib.ListN.{length, getD, List·getD-eq-default}
-use Rattle.algebra.specs.Residue.{K, red, red-zero, red-eq}
+use Rattle.algebra.specs.Residue.{K, red, red-zero}
 use Rattle.algebra.specs.Integer.{natAbs-add}
 use Rattle.algebra.specs.Clearing.{Clears}
 use Rattle.algebra.specs.PolyMatrix.{entries as series-entries}
@@ -32,7 +32,7 @@ use Rattle.laws.specs.MakerLaws.{after-entry-length, after-valid, after-step, a
 use Rattle.layout.specs.Holds.{Each}
 use Rattle.pivots.specs.Order.{degree-at}
 use Rattle.pivots.specs.Reduced.{all}
-use Rattle.pivots.specs.Rows.{Full, number-at, square-of}
+use Rattle.pivots.specs.Rows.{Full, number-at, square-of, number-of-residue}
 use Rattle.pivots.specs.State.{Chose}
 use Rattle.stepping.specs.Next.{coefficient-at, Next}
 use Rattle.stepping.specs.Filled.{Box, Kept, Filled, rows-box}
@@ -61,10 +61,6 @@ pub record Raised (m : ℕ) (moves : List ℕ) (before after : List ℤ) : Type 
   pub raised : (i : ℕ) → i < m → getD moves i 0 ≢ 0 → degree-at after i ≡ degree-at before i +ℤ pos 1
   pub stays : (i : ℕ) → i < m → getD moves i 0 ≡ 0 → degree-at after i ≡ degree-at before i
   pub rest : (i : ℕ) → m ≤ i → degree-at after i ≡ degree-at before i
-
--- Two numbers below p with the same residue are equal.
-number-of-residue : (p x y : ℕ) → 0 < p → x < p → y < p → red p x ≡ red p y → x ≡ y
-number-of-residue p x y positive hx hy e = sym (mod-eq-of-lt hx) ∙ red-eq p positive x y .0 e ∙ mod-eq-of-lt hy
 
 module _ (b : Problem) (valid : ValidProblem b) where
   positive : 0 < b .p

@@ -1,21 +1,22 @@
 -- Small squares of numbers, row by row in flat lists, and what the steps on them leave.
 --   Full l                   a list with a number for each entry
 --   square-of p l            the matrix of residues modulo p
+--   number-of-residue, square-ext      a number below p is settled by its residue, and a list by its entries
 --   Identity n l             the first n rows of the identity
 --   FirstColumn l i r        the first column in which row i is not 0
 --   Copied, RowLess, BothLess, Cleared       a row that was copied; a multiple of a row taken from one row, in two squares, from each that waits
 use mathlib.Core.Path.{_≡_, refl, sym, ap, ap₂, subst, _∙_}
 use mathlib.Core.Logic.{_≢_, by-cases}
 use mathlib.Core.List.{List}
-use Prim.Native.Nat.{ℕ, _+_, _-_, _*_, _%_, _≤_, _<_}
-use native.Mathlib.Nat.{le-of-lt}
+use Prim.Native.Nat.{ℕ, _+_, _-_, _*_, _/_, _%_, _≤_, _<_}
+use native.Mathlib.Nat.{le-of-lt, mod-eq-of-lt}
 use native.Mathlib.Decide.{ℕ-discrete}
 use native.Mathlib.Omega.{arith}
 use borrow.Author.Count.{below-more}
 use lib.ListN.{length, getD, set}
-use lib.Seq.{getD-set-same, getD-set-other}
+use lib.Seq.{getD-set-same, getD-set-other, ext-getD}
 use Rattle.algebra.specs.Ring.{CommRing}
-use Rattle.algebra.specs.Residue.{K, red}
+use Rattle.algebra.specs.Residue.{K, red, red-eq}
 use Rattle.algebra.specs.Matrix.{Matrix}
 use Rattle.rules.specs.Sizes.{most-rows}
 use Rattle.rules.specs.Table.{table, table-all}
@@ -58,6 +59,28 @@ pub each-set : (p : ℕ) (l : List ℕ) (k x : ℕ) → k < length l → Each p 
 each-set p l k x inside below small a = by-cases (ℕ-discrete a k)
     (λ e. subst (λ y. y < p) (sym (ap (λ z. getD (set l k x) z 0) e ∙ getD-set-same l k x 0 inside)) small)
     (λ ne. subst (λ y. y < p) (sym (getD-set-other l k a x 0 ne)) (below a))
+
+-- Two numbers below p with the same residue are equal.
+pub number-of-residue : (p x y : ℕ) → 0 < p → x < p → y < p → red p x ≡ red p y → x ≡ y
+number-of-residue p x y positive hx hy e = sym (mod-eq-of-lt hx) ∙ red-eq p positive x y .0 e ∙ mod-eq-of-lt hy
+
+-- Where a place of a square is, and that a list of the full length is settled by its entries.
+place-of : (k : ℕ) → square-place (k / most-rows) (k % most-rows) ≡ k
+unfolding square-place most-rows
+place-of k = omega arith
+
+row-inside : (k : ℕ) → k < square → k / most-rows < most-rows
+unfolding most-rows
+row-inside k h = omega arith
+
+column-inside : (k : ℕ) → k % most-rows < most-rows
+unfolding most-rows
+column-inside k = omega arith
+
+pub square-ext : (l l′ : List ℕ) → Full l → Full l′ → ((i j : ℕ) → i < most-rows → j < most-rows → number-at l i j ≡ number-at l′ i j) → l ≡ l′
+square-ext l l′ full full′ same =
+    ext-getD 0 l l′ (full ∙ sym full′) (λ k hk. subst (λ a. getD l a 0 ≡ getD l′ a 0) (place-of k)
+    (same (k / most-rows) (k % most-rows) (row-inside k (subst (λ n. k < n) full hk)) (column-inside k)))
 
 -- A list of zeros.
 pub zeros-at : (n k : ℕ) → getD {A = ℕ} (table n (λ i. 0)) k 0 ≡ 0

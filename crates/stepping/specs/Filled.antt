@@ -1,16 +1,17 @@
 -- A box of coefficients that is filled, one after the other: what stands in it, and that the others stay.
 --   Box, entry-box, row-box, rows-box        the rows, columns and powers that are filled
 --   Kept                     a list with room for all coefficients, of numbers below p
+--   entries-ext              a list is settled by the coefficients
 --   Filled, filled-none, filled-one, filled-both           the box is filled, with nothing, with one number, with two boxes
 --   entry-more, row-more, rows-more          one power, one column, one row more
 use mathlib.Core.Path.{_≡_, refl, sym, ap, subst, _∙_}
 use mathlib.Core.Logic.{_≢_, _⊎_, inl, inr, by-cases}
 use mathlib.Core.List.{List}
-use Prim.Native.Nat.{ℕ, _+_, _*_, _≤_, _<_}
+use Prim.Native.Nat.{ℕ, _+_, _*_, _/_, _%_, _≤_, _<_}
 use native.Mathlib.Decide.{ℕ-discrete, decLt}
 use native.Mathlib.Omega.{arith}
 use lib.ListN.{length, getD, set, length-set}
-use lib.Seq.{getD-set-same, getD-set-other}
+use lib.Seq.{getD-set-same, getD-set-other, ext-getD}
 use Rattle.rules.specs.Sizes.{most-rows, most-length}
 use Rattle.layout.specs.Flat.{entry-coefficients, square-place, entry-place}
 use Rattle.layout.specs.Holds.{Each}
@@ -50,6 +51,29 @@ places-differ i j t a b s hj hb ht hs ne e =
 pub place-inside : (i j t : ℕ) → i < most-rows → j < most-rows → t < most-length → entry-place i j t < entry-coefficients
 unfolding entry-place square-place most-rows most-length
 place-inside i j t hi hj ht = omega arith
+
+-- Where a place of the coefficients is, and that a list of the full length is settled by them.
+place-of : (k : ℕ) → entry-place (k / most-length / most-rows) (k / most-length % most-rows) (k % most-length) ≡ k
+unfolding entry-place square-place most-rows most-length
+place-of k = omega arith
+
+row-inside : (k : ℕ) → k < entry-coefficients → k / most-length / most-rows < most-rows
+unfolding most-rows most-length
+row-inside k h = omega arith
+
+column-inside : (k : ℕ) → k / most-length % most-rows < most-rows
+unfolding most-rows
+column-inside k = omega arith
+
+power-inside : (k : ℕ) → k % most-length < most-length
+unfolding most-length
+power-inside k = omega arith
+
+pub entries-ext : (l l′ : List ℕ) → length l ≡ entry-coefficients → length l′ ≡ entry-coefficients
+    → ((i j t : ℕ) → i < most-rows → j < most-rows → t < most-length → getD l (entry-place i j t) 0 ≡ getD l′ (entry-place i j t) 0) → l ≡ l′
+entries-ext l l′ full full′ same =
+    ext-getD 0 l l′ (full ∙ sym full′) (λ k hk. subst (λ a. getD l a 0 ≡ getD l′ a 0) (place-of k)
+    (same (k / most-length / most-rows) (k / most-length % most-rows) (k % most-length) (row-inside k (subst (λ n. k < n) full hk)) (column-inside k) (power-inside k)))
 
 module _ (p : ℕ) (value : (i j t r : ℕ) → Type 0) where
   -- In the box R each number has its value, and the numbers outside stay.
