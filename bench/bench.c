@@ -13,6 +13,7 @@
 #include "judges.h"
 #include "maker.h"
 #include "peak.h"
+#include "six.h"
 #include "times.h"
 #include "worked.h"
 
@@ -128,6 +129,43 @@ static void print_times(const struct bundle *bundle, const struct files *files)
     printf("\n");
 }
 
+/* Six answers to one problem: prepared once, by single calls, and over FLINT with the problem kept. */
+static const struct {
+    const char *name;
+    six_function *call;
+} sixes[] = {
+    {"prepared", prepared_six},
+    {"single", single_six},
+#ifdef WITH_FLINT
+    {"FLINT kept", flint_six},
+#endif
+};
+
+enum { SIXES = sizeof sixes / sizeof *sixes };
+
+static void print_sixes(const struct bundle *bundle, const struct files *files)
+{
+    double times[SIXES][ROUNDS], sorted[ROUNDS];
+    for (int round = 0; round < ROUNDS; round++)
+        for (int k = 0; k < SIXES; k++) {
+            int j = round % 2 == 0 ? k : SIXES - 1 - k;
+            times[j][round] = time_six(sixes[j].call, files, bundle->claims, bundle->repeats / 4 + 1);
+        }
+    printf("six answers, %-8s", bundle->name);
+    for (int j = 0; j < SIXES; j++) {
+        differences += six_differences(sixes[0].call, sixes[j].call, files, bundle->claims);
+        for (int round = 0; round < ROUNDS; round++)
+            sorted[round] = times[0][round] / times[j][round];
+        double ratio = median(sorted);
+        for (int round = 0; round < ROUNDS; round++)
+            sorted[round] = times[j][round];
+        printf("   %s %.3f us", sixes[j].name, median(sorted));
+        if (j > 0)
+            printf(" (prepared / it %.3f)", ratio);
+    }
+    printf("\n");
+}
+
 /* Two files of the largest sizes, with the modulus given. */
 static void longest_files(uint32_t p, struct files *files)
 {
@@ -220,9 +258,12 @@ int main(void)
     print_header();
     for (int b = 0; b < BUNDLES; b++)
         print_times(&bundles[b], files[b]);
+    for (int b = 0; b < BUNDLES; b++)
+        print_sixes(&bundles[b], files[b]);
+    printf("differences with six answers too: %d\n", differences);
     struct peak peak = peak_stack();
-    printf("peak stack of one call: judge %zu bytes, make_evidence %zu bytes, judge_drawn %zu bytes\n", peak.judge, peak.make_evidence,
-           peak.judge_drawn);
+    printf("peak stack of one call: judge %zu bytes, make_evidence %zu, prepare %zu, judge_prepared %zu, judge_drawn %zu\n", peak.judge,
+           peak.make_evidence, peak.prepare, peak.judge_prepared, peak.judge_drawn);
     print_reading();
     print_drawn(files);
     print_inverse("board", judge);

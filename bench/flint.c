@@ -5,6 +5,7 @@
  */
 #include "claim.h"
 #include "judges.h"
+#include "six.h"
 
 #include <flint/nmod_mat.h>
 #include <flint/nmod_poly.h>
@@ -124,15 +125,29 @@ static bool full_rank(const struct claim *c, const nmod_poly_mat_t P)
     return good;
 }
 
-static uint64_t product_verdict(const struct claim *c, const nmod_poly_mat_t P)
+static void set_up_F(nmod_poly_mat_t F, const struct claim *c)
 {
-    nmod_poly_mat_t F;
     nmod_poly_mat_init(F, c->m, c->n, c->p);
     for (int i = 0; i < c->m; i++)
         for (int j = 0; j < c->n; j++)
             set_polynomial(nmod_poly_mat_entry(F, i, j), c->f[i][j], c->order[j]);
+}
+
+/* F is set up here if it was not before. */
+static uint64_t first_fault(const struct claim *c, const nmod_poly_mat_t P, const nmod_poly_mat_struct *kept)
+{
+    if (kept != NULL)
+        return product_fault(c, P, kept);
+    nmod_poly_mat_t F;
+    set_up_F(F, c);
     uint64_t fault = product_fault(c, P, F);
     nmod_poly_mat_clear(F);
+    return fault;
+}
+
+static uint64_t product_verdict(const struct claim *c, const nmod_poly_mat_t P, const nmod_poly_mat_struct *kept)
+{
+    uint64_t fault = first_fault(c, P, kept);
     if (fault != 0)
         return fault;
     if (!full_rank(c, P))
@@ -143,23 +158,43 @@ static uint64_t product_verdict(const struct claim *c, const nmod_poly_mat_t P)
     return packed(0, 0, 0, (size_t)sum);
 }
 
+static uint64_t claim_verdict(const struct claim *c, const nmod_poly_mat_struct *kept)
+{
+    uint64_t verdict;
+    nmod_poly_mat_t P;
+    nmod_poly_mat_init(P, c->m, c->m, c->p);
+    for (int i = 0; i < c->m; i++)
+        for (int j = 0; j < c->m; j++)
+            set_polynomial(nmod_poly_mat_entry(P, i, j), c->entry[i][j], c->length[i][j]);
+    if (!reduced(c, P))
+        verdict = packed(9, 0, 0, 0);
+    else if (!determinant_is_monomial(c, P))
+        verdict = packed(10, 0, 0, 0);
+    else
+        verdict = product_verdict(c, P, kept);
+    nmod_poly_mat_clear(P);
+    return verdict;
+}
+
 uint64_t flint_judge(const uint8_t *problem, size_t problem_len, const uint8_t *answer, size_t answer_len)
 {
     struct claim c;
-    uint64_t verdict = read_claim(&c, problem, problem_len, answer, answer_len, true, is_prime);
-    if (verdict != 0)
-        return verdict;
-    nmod_poly_mat_t P;
-    nmod_poly_mat_init(P, c.m, c.m, c.p);
-    for (int i = 0; i < c.m; i++)
-        for (int j = 0; j < c.m; j++)
-            set_polynomial(nmod_poly_mat_entry(P, i, j), c.entry[i][j], c.length[i][j]);
-    if (!reduced(&c, P))
-        verdict = packed(9, 0, 0, 0);
-    else if (!determinant_is_monomial(&c, P))
-        verdict = packed(10, 0, 0, 0);
-    else
-        verdict = product_verdict(&c, P);
-    nmod_poly_mat_clear(P);
-    return verdict;
+    uint64_t refusal = read_claim(&c, problem, problem_len, answer, answer_len, true, is_prime);
+    return refusal != 0 ? refusal : claim_verdict(&c, NULL);
+}
+
+void flint_six(const uint8_t *problem, size_t problem_len, const struct answer *answers, uint64_t *verdicts)
+{
+    struct claim c;
+    uint64_t refusal = read_problem_alone(&c, problem, problem_len, is_prime);
+    nmod_poly_mat_t F;
+    if (refusal == 0)
+        set_up_F(F, &c);
+    for (int i = 0; i < SIX; i++) {
+        verdicts[i] = refusal != 0 ? refusal : read_answer_alone(&c, answers[i].bytes, answers[i].length, true);
+        if (verdicts[i] == 0)
+            verdicts[i] = claim_verdict(&c, F);
+    }
+    if (refusal == 0)
+        nmod_poly_mat_clear(F);
 }

@@ -19,6 +19,18 @@ static void make_evidence_once(void)
     make_evidence(judged.problem, judged.problem_len, judged.answer, judged.answer_without, buffer, sizeof buffer);
 }
 
+static struct board_problem prepared;
+
+static void prepare_once(void)
+{
+    board_prepare(judged.problem, judged.problem_len, &prepared);
+}
+
+static void judge_prepared_once(void)
+{
+    board_judge_prepared(&prepared, judged.answer, judged.answer_len);
+}
+
 static void judge_drawn_once(void)
 {
     static const uint32_t u[BOARD_DRAWN] = {1, 1, 1, 1};
@@ -35,12 +47,14 @@ static void deepen(size_t *most, void (*call)(void))
 struct peak peak_stack(void)
 {
     static const enum group groups[] = {LARGEST, MIXED, SMALL, JOBS, DIAGONAL};
-    struct peak most = {0, 0, 0};
+    struct peak most = {0, 0, 0, 0, 0};
     for (size_t g = 0; g < sizeof groups / sizeof *groups; g++)
         for (uint64_t i = 0; i < CLAIMS; i++) {
             make_files(groups[g], i, &judged);
             deepen(&most.judge, judge_once);
             deepen(&most.make_evidence, make_evidence_once);
+            deepen(&most.prepare, prepare_once);
+            deepen(&most.judge_prepared, judge_prepared_once);
             deepen(&most.judge_drawn, judge_drawn_once);
         }
     return most;

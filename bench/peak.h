@@ -7,6 +7,8 @@
 struct peak {
     size_t judge;
     size_t make_evidence;
+    size_t prepare;
+    size_t judge_prepared;
     size_t judge_drawn;
 };
 

@@ -1,13 +1,15 @@
 /*
- * A host for the board: judges two files, makes the evidence for an answer that has none yet, tests an answer with drawn numbers, or makes one.
+ * A host for the board: judges answers to one problem, makes the evidence for an answer that has none yet, tests an answer with drawn
+ * numbers, or makes one.
  *
- *     host PROBLEM ANSWER                 prints `pass D`, or `refuse CODE FILE RECORD AT`
+ *     host PROBLEM ANSWER...              prints for each answer a line `pass D` or `refuse CODE FILE RECORD AT`
  *     host --basis STEPS PROBLEM          makes an answer, prints `basis CODE FILE RECORD AT` and, where it was made, its bytes in hex
  *     host --evidence PROBLEM ANSWER      prints `evidence CODE FILE RECORD AT` and, where it was made, the record's bytes in hex
  *     host --drawn U... POINT PROBLEM ANSWER      prints `drawn CODE FILE RECORD AT`, for at most four numbers u and a point
  *
- * A file that can't be opened gives `nofile 0` (the problem, tried first) or `nofile 1` (the answer). So does one that isn't named, and
- * one that can't be read, such as a folder. The exit status is 0 after code 0, 1 after a refusal and 2 after `nofile`.
+ * The problem is read once, however many answers there are. A file that can't be opened gives `nofile 0` (the problem, tried first) or, on
+ * its line, `nofile 1` (an answer). So does one that isn't named, and one that can't be read, such as a folder. The exit status is 0 after
+ * code 0, 1 after a refusal and 2 after `nofile`, and of several answers the largest.
  *
  *     rt staticlib board
  *     cc -std=c11 -Wall -Wextra -Wpedantic -Werror -Iinclude examples/host.c target/staticlib/libboard.a -o host
@@ -44,9 +46,8 @@ static void print_numbers(const char *word, uint64_t verdict)
     printf("%s %u %u %u %" PRIu32, word, board_code(verdict), board_file(verdict), board_record(verdict), board_at(verdict));
 }
 
-static int print_verdict(const struct file *problem, const struct file *answer)
+static int print_verdict(uint64_t verdict)
 {
-    uint64_t verdict = judge(problem->bytes, problem->length, answer->bytes, answer->length);
     if (board_code(verdict) == BOARD_PASS) {
         printf("pass %" PRIu32 "\n", board_at(verdict));
         return 0;
@@ -64,6 +65,33 @@ static int print_made(const char *word, uint64_t verdict, const uint8_t *bytes)
         printf(" %02x", bytes[i]);
     printf("\n");
     return made ? 0 : 1;
+}
+
+static int no_answer(void)
+{
+    printf("nofile 1\n");
+    return 2;
+}
+
+/* A problem that is refused refuses every answer to it. */
+static int print_verdicts(const struct file *problem, char **names, int count)
+{
+    static struct file answer;
+    static struct board_problem prepared;
+    uint64_t read = board_prepare(problem->bytes, problem->length, &prepared);
+    int worst = count == 0 ? no_answer() : 0;
+    for (int i = 0; i < count; i++) {
+        int status;
+        if (!read_file(names[i], &answer))
+            status = no_answer();
+        else if (board_code(read) != BOARD_PASS)
+            status = print_verdict(read);
+        else
+            status = print_verdict(board_judge_prepared(&prepared, answer.bytes, answer.length));
+        if (status > worst)
+            worst = status;
+    }
+    return worst;
 }
 
 static int print_evidence(const struct file *problem, const struct file *answer)
@@ -110,11 +138,9 @@ int main(int argc, char **argv)
         printf("nofile 0\n");
         return 2;
     }
-    if (!read_file(argc > first + 1 ? argv[first + 1] : NULL, &answer)) {
-        printf("nofile 1\n");
-        return 2;
-    }
-    if (drawn)
-        return print_drawn(argv + 2, argc - 4, &problem, &answer);
-    return evidence ? print_evidence(&problem, &answer) : print_verdict(&problem, &answer);
+    if (!evidence && !drawn)
+        return print_verdicts(&problem, argv + 2, argc - 2);
+    if (!read_file(argc > first + 1 ? argv[first + 1] : NULL, &answer))
+        return no_answer();
+    return drawn ? print_drawn(argv + 2, argc - 4, &problem, &answer) : print_evidence(&problem, &answer);
 }

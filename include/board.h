@@ -8,17 +8,20 @@
  * Take it apart with board_code, board_file, board_record and board_at. The code says what was found, the other three say where:
  *
  *     code        file                    record               at
- *     0           0                       0                    judge: the degree sum; make_evidence: the bytes written
+ *     0           0                       0                    judge, judge_prepared: the degree sum; make_evidence: the bytes
+ *                                                              written; prepare: 0
  *     0           0                       steps done           make_basis: the bytes written
  *     1 to 8      0 problem, 1 answer     record, from 0       offset of the field in that file, from 0
- *     9, 10, 13   0                       0                    0
+ *     9, 10, 13,  0                       0                    0
+ *     20
  *     11, 12      2                       row, from 0          column, from 0
  *     14          0                       0                    bytes needed
  *     16          2                       0                    judge_drawn: the number's place, u from 0, the point m
  *     255         0                       0                    judge_drawn: 0, and it is no verdict
  *
  * In every function:
- * - the files, and the numbers of u, are only read, and bytes outside the lengths given are neither read nor written;
+ * - the files, and the numbers of u, are only read, and bytes outside the lengths given, and outside a prepared problem, are neither read nor
+ *   written;
  * - a length may be 0, the pointer is never NULL;
  * - nothing is kept between calls and no memory is asked for, so that calls from several threads do not meet.
  *
@@ -52,6 +55,7 @@ enum board_verdict {
     BOARD_RANK = 13,        /* the rank of P(0) with C beside it is too low: P generates too little */
     BOARD_BUFFER = 14,      /* make_evidence and make_basis: the buffer is too short, `at` has the bytes needed */
     BOARD_DRAWN_LARGE = 16, /* judge_drawn only: a drawn number is p or more */
+    BOARD_NOT_GIVEN = 20,   /* judge_prepared only: no problem file gives this prepared problem; the answer was not looked at */
     BOARD_TURNED_AWAY = 255 /* judge_drawn only, and no verdict: P times F has a fault of 11 or 12 */
 };
 
@@ -62,6 +66,22 @@ enum board_verdict {
 
 /* The numbers of u in judge_drawn. */
 #define BOARD_DRAWN 4
+
+/* The most rows and columns of a problem, and its largest order. */
+enum { BOARD_ROWS = 4, BOARD_ORDER = 16 };
+
+/*
+ * A problem that was read, for judging several answers to it. Fill it with board_prepare and hand it to board_judge_prepared as it is. Every
+ * number counts, also those that the problem does not use, which are 0: a form that no problem file gives is refused by code 20, whatever
+ * it holds. It may be copied and kept, and several threads may judge against the same one.
+ */
+struct board_problem {
+    uint32_t p;
+    size_t m, n;
+    size_t orders[BOARD_ROWS];
+    int32_t shifts[BOARD_ROWS];
+    uint32_t f[BOARD_ROWS * BOARD_ROWS * BOARD_ORDER];
+};
 
 /* Judges an answer to a problem, both as whole files in memory, and returns the verdict. */
 uint64_t judge(const uint8_t *problem, size_t problem_len, const uint8_t *answer, size_t answer_len);
@@ -90,6 +110,29 @@ uint64_t make_evidence(const uint8_t *problem, size_t problem_len, const uint8_t
  * shows it, at most 16 of the p points give code 0. Otherwise codes 1 to 8 and then 16; the verdict is the judge's alone.
  */
 uint64_t judge_drawn(const uint8_t *problem, size_t problem_len, const uint8_t *answer, size_t answer_len, const uint32_t *u, uint32_t point);
+
+/* The calls behind board_prepare and board_judge_prepared, with the parts of a struct board_problem one by one; no two parts share a byte. */
+uint64_t prepare(const uint8_t *problem, size_t problem_len, uint32_t *p, size_t *m, size_t *n, size_t *orders, int32_t *shifts, uint32_t *f);
+uint64_t judge_prepared(uint32_t p, size_t m, size_t n, const size_t *orders, const int32_t *shifts, const uint32_t *f, const uint8_t *answer,
+                        size_t answer_len);
+
+/*
+ * Reads a problem for judging several answers to it. With code 0 every number of `prepared` is written. With any other code, 1 to 8, not a
+ * byte of it is.
+ */
+static inline uint64_t board_prepare(const uint8_t *problem, size_t problem_len, struct board_problem *prepared)
+{
+    return prepare(problem, problem_len, &prepared->p, &prepared->m, &prepared->n, prepared->orders, prepared->shifts, prepared->f);
+}
+
+/*
+ * Judges an answer to a prepared problem. The verdict is the one that `judge` gives on the problem's file and the answer; or code 20, if no
+ * problem file gives `prepared`.
+ */
+static inline uint64_t board_judge_prepared(const struct board_problem *prepared, const uint8_t *answer, size_t answer_len)
+{
+    return judge_prepared(prepared->p, prepared->m, prepared->n, prepared->orders, prepared->shifts, prepared->f, answer, answer_len);
+}
 
 /* What was found: a number of `enum board_verdict`. */
 static inline unsigned board_code(uint64_t verdict)

@@ -1,7 +1,8 @@
 /*
  * The archive as a C host sees it: document 01's worked cases, its example on disk with every variant, and one variant for each code,
- * the same that docs/OPERATOR.md shows; the identity for shifts that are far apart; the example with numbers drawn for it; and how deep a call
- * goes into the stack. Each check prints a line only if it fails; the last line is the tally.
+ * the same that docs/OPERATOR.md shows, by one call and by a prepared problem; forms that no file gives; the identity for shifts that are far
+ * apart; the example with numbers drawn for it; and how deep a call goes into the stack. Each check prints a line only if it fails; the last
+ * line is the tally.
  */
 #include "board.h"
 #include "check.h"
@@ -60,6 +61,19 @@ static const struct variant variants[] = {
     {.name = "F = 0 and C = 0", .changes = 4, .change = {{0, 20, 0}, {0, 28, 0}, {0, 32, 0}, {1, 54, 0}}, .code = 13},
 };
 
+/* The two calls in a row: the verdict of the single one. */
+static uint64_t judge_in_two(const uint8_t *p, size_t p_len, const uint8_t *a, size_t a_len)
+{
+    struct board_problem prepared, before;
+    memset(&prepared, GUARD, sizeof prepared);
+    memcpy(&before, &prepared, sizeof prepared);
+    uint64_t read = board_prepare(p, p_len, &prepared);
+    if (board_code(read) == BOARD_PASS)
+        return board_judge_prepared(&prepared, a, a_len);
+    check(memcmp(&prepared, &before, sizeof prepared) == 0, "a refused problem writes nothing");
+    return read;
+}
+
 static void check_variants(void)
 {
     for (size_t v = 0; v < sizeof variants / sizeof *variants; v++) {
@@ -71,9 +85,41 @@ static void check_variants(void)
             (variant->change[i].file == 0 ? p : a)[variant->change[i].at] = variant->change[i].byte;
         uint64_t got = judge(p, PROBLEM, a, (size_t)(ANSWER + variant->longer));
         check_verdict(got, variant->code, variant->file, variant->record, variant->at, variant->name);
+        check(judge_in_two(p, PROBLEM, a, (size_t)(ANSWER + variant->longer)) == got, variant->name);
     }
     check_verdict(judge(problem, 0, answer, ANSWER), 1, 0, 0, 0, "problem empty");
     check_verdict(judge(problem, PROBLEM - 1, answer, 0), 1, 0, 3, 32, "problem before answer");
+}
+
+/* Forms that no file gives, one for each part, before an answer that is cut and would be refused by 1. */
+static void check_not_given(void)
+{
+    struct board_problem good, form;
+    check_verdict(board_prepare(problem, PROBLEM, &good), BOARD_PASS, 0, 0, 0, "the example is prepared");
+    form = good, form.p = 9;
+    check_verdict(board_judge_prepared(&form, answer, 1), BOARD_NOT_GIVEN, 0, 0, 0, "a form with p = 9");
+    form = good, form.m = 5;
+    check_verdict(board_judge_prepared(&form, answer, 1), BOARD_NOT_GIVEN, 0, 0, 0, "a form with m = 5");
+    form = good, form.n = 0;
+    check_verdict(board_judge_prepared(&form, answer, 1), BOARD_NOT_GIVEN, 0, 0, 0, "a form with n = 0");
+    form = good, form.orders[0] = 17;
+    check_verdict(board_judge_prepared(&form, answer, 1), BOARD_NOT_GIVEN, 0, 0, 0, "a form with order 17");
+    form = good, form.orders[3] = 1;
+    check_verdict(board_judge_prepared(&form, answer, 1), BOARD_NOT_GIVEN, 0, 0, 0, "a form with an order of no column");
+    form = good, form.shifts[0] = -1001;
+    check_verdict(board_judge_prepared(&form, answer, 1), BOARD_NOT_GIVEN, 0, 0, 0, "a form with shift -1,001");
+    form = good, form.shifts[2] = 1;
+    check_verdict(board_judge_prepared(&form, answer, 1), BOARD_NOT_GIVEN, 0, 0, 0, "a form with a shift of no row");
+    form = good, form.f[0] = 7;
+    check_verdict(board_judge_prepared(&form, answer, 1), BOARD_NOT_GIVEN, 0, 0, 0, "a form with the coefficient p");
+    form = good, form.f[2] = 1;
+    check_verdict(board_judge_prepared(&form, answer, 1), BOARD_NOT_GIVEN, 0, 0, 0, "a form with a coefficient at the order");
+    form = good, form.f[255] = 1;
+    check_verdict(board_judge_prepared(&form, answer, 1), BOARD_NOT_GIVEN, 0, 0, 0, "a form with a coefficient of no column");
+    memset(&form, 0, sizeof form);
+    check_verdict(board_judge_prepared(&form, answer, ANSWER), BOARD_NOT_GIVEN, 0, 0, 0, "a form of zeros");
+    check_verdict(board_judge_prepared(&good, answer, 1), BOARD_CUT, 1, 0, 0, "the form itself, and a cut answer");
+    check_verdict(board_judge_prepared(&good, answer, ANSWER), BOARD_PASS, 0, 0, 2, "the form itself");
 }
 
 /* `length` bytes are lent, one more lies behind them. */
@@ -110,6 +156,7 @@ static void check_worked(void)
         write_files(&w->claim, &f);
         check_verdict(judge(f.problem, f.problem_len, f.answer, f.answer_len), board_code(w->verdict), board_file(w->verdict),
                       board_record(w->verdict), board_at(w->verdict), w->name);
+        check(judge_in_two(f.problem, f.problem_len, f.answer, f.answer_len) == w->verdict, w->name);
     }
 }
 
@@ -178,12 +225,15 @@ static void check_stack(void)
     struct peak peak = peak_stack();
     check(0 < peak.judge && peak.judge < MOST_STACK, "judge takes less than 64 KiB of stack");
     check(0 < peak.make_evidence && peak.make_evidence < MOST_STACK, "make_evidence takes less than 64 KiB of stack");
+    check(0 < peak.prepare && peak.prepare < MOST_STACK, "prepare takes less than 64 KiB of stack");
+    check(0 < peak.judge_prepared && peak.judge_prepared < MOST_STACK, "judge_prepared takes less than 64 KiB of stack");
     check(0 < peak.judge_drawn && peak.judge_drawn < MOST_STACK, "judge_drawn takes less than 64 KiB of stack");
 }
 
 int main(void)
 {
     check_variants();
+    check_not_given();
     check_evidence_cases();
     check_worked();
     check_edge(2, 1, 0, "p = 2");

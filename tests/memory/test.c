@@ -27,7 +27,7 @@ struct room {
 };
 
 static bool heap;
-static struct room problem_room, answer_room, buffer_room, drawn_room;
+static struct room problem_room, answer_room, buffer_room, form_room, drawn_room;
 static uint64_t calls, failures, claim_number;
 
 static void open_room(struct room *room)
@@ -107,6 +107,30 @@ static void try_judge(const struct files *f, bool front)
     check(holds(&problem_room, f->problem) && holds(&answer_room, f->answer), "judge", got, due);
 }
 
+/* The form lies in a room of its own. What a room at the end of its page holds need not be aligned for a struct, so that its front is taken. */
+static void try_prepared(const struct files *f, bool front)
+{
+    static struct board_problem before;
+    memset(&before, GUARD, sizeof before);
+    memcpy(lend(&problem_room, f->problem_len, front), f->problem, f->problem_len);
+    memcpy(lend(&answer_room, f->answer_len, front), f->answer, f->answer_len);
+    struct board_problem *form = (struct board_problem *)(void *)lend(&form_room, sizeof *form, sizeof *form % sizeof(size_t) != 0 || front);
+    uint64_t due = plain_judge(f->problem, f->problem_len, f->answer, f->answer_len);
+    uint64_t read = board_prepare(problem_room.bytes, f->problem_len, form);
+    uint64_t got = read;
+    if (board_code(read) == BOARD_PASS) {
+        memcpy(&before, form, sizeof before);
+        got = board_judge_prepared(form, answer_room.bytes, f->answer_len);
+    }
+    const uint8_t *kept = (const uint8_t *)&before;
+    check(holds(&problem_room, f->problem) && holds(&answer_room, f->answer) && holds(&form_room, kept), "prepared", got, due);
+    uint32_t at = (uint32_t)(claim_number % sizeof before);
+    form_room.bytes[at] ^= 1;
+    memcpy(&before, form, sizeof before);
+    board_judge_prepared(form, answer_room.bytes, f->answer_len);
+    check(holds(&answer_room, f->answer) && holds(&form_room, kept), "prepared, a byte changed", 0, 0);
+}
+
 static void try_evidence(const struct files *f, size_t lent, bool front)
 {
     uint8_t due_bytes[MOST_LENT];
@@ -138,6 +162,7 @@ static void try_claim(const struct files *f, struct source *source)
 {
     bool front = draw(source, 2) == 0;
     try_judge(f, front);
+    try_prepared(f, front);
     try_drawn(f, source, front);
     try_evidence(f, MOST_LENT, front);
     try_evidence(f, draw(source, MOST_LENT + 1), front);
@@ -174,6 +199,7 @@ int main(int argc, char **argv)
     open_room(&problem_room);
     open_room(&answer_room);
     open_room(&buffer_room);
+    open_room(&form_room);
     open_room(&drawn_room);
     for (claim_number = first; claim_number < first + count; claim_number++) {
         struct files files;
@@ -189,6 +215,7 @@ int main(int argc, char **argv)
         free(problem_room.bytes);
         free(answer_room.bytes);
         free(buffer_room.bytes);
+        free(form_room.bytes);
         free(drawn_room.bytes);
     }
     printf("%s: %" PRIu64 " claims from number %" PRIu64 ", %" PRIu64 " calls, %" PRIu64 " failures\n", argv[1], count, first, calls, failures);

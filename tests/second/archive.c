@@ -5,6 +5,9 @@
  *     archive BUNDLE
  *     archive --drawn DRAWINGS      claims with a row u and a point drawn for each: a line with the four numbers of the answer
  *
+ * Each answer is judged against its prepared problem too, and the prepared problem spoilt in every part, each of which has to be 20. What is
+ * not as it should be is printed, a line more than there should be. Last, on the other stream, how many forms were tried.
+ *
  * The files of each case, u and the bytes lent are in memory of exactly their lengths. Exit status 1: the bundle can't be read or is cut.
  */
 #include "board.h"
@@ -15,7 +18,9 @@
 #include <stdlib.h>
 #include <string.h>
 
-enum { LENT = 170 };
+enum { LENT = 170, COEFFICIENTS = BOARD_ROWS * BOARD_ROWS * BOARD_ORDER };
+
+static uint64_t forms;
 
 static bool read_number(FILE *bundle, uint32_t *number)
 {
@@ -39,6 +44,98 @@ static void print_numbers(const char *word, uint64_t verdict)
     printf("%s %u %u %u %" PRIu32, word, board_code(verdict), board_file(verdict), board_record(verdict), board_at(verdict));
 }
 
+/* A form that no file gives. */
+static void try_spoilt(const struct board_problem *form, const uint8_t *answer, size_t answer_len, const char *part)
+{
+    forms++;
+    uint64_t got = board_judge_prepared(form, answer, answer_len);
+    if (got != BOARD_NOT_GIVEN) {
+        print_numbers(part, got);
+        printf("\n");
+    }
+}
+
+/* Numbers above every coefficient that are no primes, or too large; and numbers below 2. */
+static void spoil_prime(const struct board_problem *given, const uint8_t *answer, size_t answer_len)
+{
+    static const uint32_t primes[] = {0, 1, 2147483645, 2147483646, 2147483648, 2147483659, 4294967291, 4294967295};
+    for (size_t i = 0; i < sizeof primes / sizeof *primes; i++) {
+        struct board_problem form = *given;
+        form.p = primes[i];
+        try_spoilt(&form, answer, answer_len, "spoilt p");
+    }
+}
+
+static void spoil_sizes(const struct board_problem *given, const uint8_t *answer, size_t answer_len)
+{
+    static const size_t sizes[] = {0, BOARD_ROWS + 1, 256, SIZE_MAX};
+    for (size_t i = 0; i < sizeof sizes / sizeof *sizes; i++) {
+        struct board_problem form = *given;
+        form.m = sizes[i];
+        try_spoilt(&form, answer, answer_len, "spoilt m");
+        form = *given;
+        form.n = sizes[i];
+        try_spoilt(&form, answer, answer_len, "spoilt n");
+    }
+}
+
+static void spoil_orders(const struct board_problem *given, const uint8_t *answer, size_t answer_len)
+{
+    static const size_t orders[] = {0, BOARD_ORDER + 1, 256, SIZE_MAX}, unused[] = {1, BOARD_ORDER, SIZE_MAX};
+    for (size_t j = 0; j < BOARD_ROWS; j++)
+        for (size_t i = 0; i < (j < given->n ? 4 : 3); i++) {
+            struct board_problem form = *given;
+            form.orders[j] = j < given->n ? orders[i] : unused[i];
+            try_spoilt(&form, answer, answer_len, "spoilt order");
+        }
+}
+
+static void spoil_shifts(const struct board_problem *given, const uint8_t *answer, size_t answer_len)
+{
+    static const int32_t shifts[] = {1001, -1001, INT32_MAX, INT32_MIN}, unused[] = {1, -1, 1000, INT32_MIN};
+    for (size_t i = 0; i < BOARD_ROWS; i++)
+        for (size_t k = 0; k < 4; k++) {
+            struct board_problem form = *given;
+            form.shifts[i] = i < given->m ? shifts[k] : unused[k];
+            try_spoilt(&form, answer, answer_len, "spoilt shift");
+        }
+}
+
+/* A coefficient that there is becomes p, any other becomes 1. */
+static void spoil_coefficients(const struct board_problem *given, const uint8_t *answer, size_t answer_len)
+{
+    for (size_t x = 0; x < COEFFICIENTS; x++) {
+        size_t j = x / (BOARD_ROWS * BOARD_ORDER), i = x / BOARD_ORDER % BOARD_ROWS, k = x % BOARD_ORDER;
+        bool used = j < given->n && i < given->m && k < given->orders[j];
+        struct board_problem form = *given;
+        form.f[x] = used ? given->p : 1;
+        try_spoilt(&form, answer, answer_len, used ? "spoilt coefficient" : "spoilt zero");
+    }
+}
+
+/* The answer against its prepared problem: the verdict is the one that the single call gave. A refused problem leaves the form as it was. */
+static void try_prepared(uint64_t due, const uint8_t *problem, size_t problem_len, const uint8_t *answer, size_t answer_len)
+{
+    struct board_problem form, before;
+    memset(&form, LENT, sizeof form);
+    memcpy(&before, &form, sizeof form);
+    uint64_t read = board_prepare(problem, problem_len, &form);
+    forms++;
+    if (board_code(read) != BOARD_PASS) {
+        if (read != due || memcmp(&form, &before, sizeof form) != 0)
+            printf("prepared: refused otherwise\n");
+        try_spoilt(&form, answer, answer_len, "never prepared");
+        return;
+    }
+    if (read != 0 || board_judge_prepared(&form, answer, answer_len) != due)
+        printf("prepared: another verdict\n");
+    spoil_prime(&form, answer, answer_len);
+    spoil_sizes(&form, answer, answer_len);
+    spoil_orders(&form, answer, answer_len);
+    spoil_shifts(&form, answer, answer_len);
+    spoil_coefficients(&form, answer, answer_len);
+}
+
 static void print_case(const uint8_t *problem, size_t problem_len, const uint8_t *answer, size_t answer_len, uint8_t *lent, size_t lent_len)
 {
     uint64_t verdict = judge(problem, problem_len, answer, answer_len);
@@ -46,9 +143,10 @@ static void print_case(const uint8_t *problem, size_t problem_len, const uint8_t
         printf("pass %" PRIu32, board_at(verdict));
     else
         print_numbers("refuse", verdict);
+    printf("\n");
+    try_prepared(verdict, problem, problem_len, answer, answer_len);
     memset(lent, LENT, lent_len);
     uint64_t made = make_evidence(problem, problem_len, answer, answer_len, lent, lent_len);
-    printf("\n");
     print_numbers("evidence", made);
     if (lent_len > 0)
         printf(" ");
@@ -103,5 +201,7 @@ int main(int argc, char **argv)
         if (!(drawn ? run_drawing(bundle) : run_case(bundle)))
             return 1;
     fclose(bundle);
+    if (!drawn)
+        fprintf(stderr, "%" PRIu64 " prepared forms\n", forms);
     return 0;
 }

@@ -7,7 +7,7 @@ use evidence::put_evidence;
 use layout::RECORD;
 use layout::no_columns;
 use layout::no_entries;
-use problem_file::read_problem_into;
+use prepared::prepare;
 use verdict::Reply;
 use writer::put_text;
 
@@ -18,7 +18,7 @@ pub fn evidence_files(problem: &[u8], answer: &[u8], buffer: &mut [u8]) -> Reply
     ensures { λ r. ⌜ now (buffer .exit) ≡ make-evidence (now (problem .entry)) (now (answer .entry)) (now (buffer .entry)) .buffer ⌝ }
 {
     let mut f = no_columns();
-    let b = read_problem_into(problem, &mut f);
+    let b = prepare(problem, &mut f);
     if !b.ok {
         let refusal = b.refusal;
         return Reply::Unread(refusal);

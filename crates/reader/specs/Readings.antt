@@ -1,6 +1,6 @@
 -- What a reading of the code says of the file: refused, with the refusal, or read, and then the arrays are sound and stand for what was read.
 --   after                    the place after what was read
---   problem-off, problem-read, problem-head, problem-columns       of a problem
+--   problem-off, problem-read, problem-head, problem-columns, problem-exact        of a problem
 --   answer-off, answer-read, answer-basis, answer-constants        of an answer to it
 --   basis-off, basis-read, basis-sound                             of an answer without evidence
 use mathlib.Core.Path.{_≡_, refl, sym, ap, subst, _∙_}
@@ -23,7 +23,7 @@ use Rattle.answer_file.specs.declared.ReadAnswer.{ReadAnswer}
 use Rattle.storing.specs.Storing.{into, into-refused}
 use Rattle.problem_file.specs.Values.{problem-value}
 use Rattle.answer_file.specs.Values.{answer-value, read-answer, without-evidence}
-use Rattle.reader.specs.Stands.{problem-stands, sound-head-of, sound-columns-of, basis-stands, entries-below, entries-padded, constants-stands, constants-below}
+use Rattle.reader.specs.Stands.{problem-stands, sound-head-of, sound-columns-of, Exact, exact-of, basis-stands, entries-below, entries-padded, constants-stands, constants-below}
 
 -- The place after what was read.
 abbrev pub after : {A : Type 0} → Result A → Place
@@ -70,6 +70,10 @@ module _ (s : List ℕ) {x : ReadProblem} (e : x ≡ problem-value (read-problem
     unfolding problem-value
     problem-columns =
         problem-when-on (λ b z. SoundColumns (z .problem .head) (z .problem .f)) x (read-problem s) e h (λ b q k. sound-columns-of b (problem-valid s k)) .2
+
+    pub problem-exact : (b : Problem) × (read-problem s ≡ got b (after (read-problem s))) × Exact b head (x .problem .f)
+    unfolding problem-value
+    problem-exact = problem-when-on (λ b z. Exact b (z .problem .head) (z .problem .f)) x (read-problem s) e h (λ b q k. exact-of b (problem-valid s k))
 
 -- THE ANSWER
 

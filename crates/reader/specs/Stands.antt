@@ -1,8 +1,9 @@
 -- What was read, in arrays, stands for itself, and is sound.
 --   problem-stands, sound-head-of, sound-columns-of        a problem
+--   Exact b head f, exact-of                               and every number of its arrays, also where it has nothing
 --   basis-stands, sound-basis-of                           P
 --   constants-stands, constants-below                      C
-use mathlib.Core.Path.{_≡_, sym, ap, subst, _∙_}
+use mathlib.Core.Path.{_≡_, refl, sym, ap, subst, _∙_}
 use mathlib.Core.Bool.{Bool, cond}
 use mathlib.Core.List.{List, []}
 use Prim.Native.Nat.{ℕ, _≤_, _<_}
@@ -19,6 +20,7 @@ use Rattle.rules.specs.Table.{table-ext}
 use Rattle.laws.specs.Valid.{ValidProblem, ValidBasis}
 use Rattle.layout.specs.Flat.{square-place, length-at, shift-at, cell, column-cell}
 use Rattle.layout.specs.Holds.{Each, Padded}
+use Rattle.claim.specs.declared.Head.{Head}
 use Rattle.claim.specs.Claims.{orders-of, shifts-of, columns-of, problem-of, basis-of, constants-of}
 use Rattle.claim.specs.Sound.{SoundHead, SoundColumns}
 use Rattle.storing.specs.Poured.{All, all-of}
@@ -39,6 +41,15 @@ all-cells : (Q : ℕ → Type 0) (M : List (List (List ℕ))) → ((i j k : ℕ)
 all-cells Q M h = all-of (All (All Q)) [] M (λ i hi. all-of (All Q) [] (getD M i []) (λ j hj. all-of Q 0 (at M i j) (λ k hk. h i j k)))
 
 -- THE PROBLEM
+
+-- Every number of the arrays is what the problem has there, and 0 where it has nothing.
+pub record Exact (b : Problem) (head : Head) (f : List ℕ) : Type 0 where
+  pub same-p : b .p ≡ head .p
+  pub same-m : b .m ≡ head .m
+  pub same-n : b .n ≡ head .n
+  pub orders : (j : ℕ) → getD (head .orders) j 0 ≡ order b j
+  pub shifts : (i : ℕ) → shift-at (head .shifts) i ≡ shift b i
+  pub cells : (i j k : ℕ) → i < most-rows → column-cell f i j k ≡ getD (at (b .F) j i) k 0
 
 module _ (b : Problem) (valid : ValidProblem b) where
   -- No entry of F has more coefficients than the largest order.
@@ -113,6 +124,9 @@ module _ (b : Problem) (valid : ValidProblem b) where
             columns-stand i j k (omega (arith, valid .rows-most))
             ∙ List·getD-eq-default (at (b .F) j i) 0 (omega (arith, valid .F-entry-length i j hi hj, orders-stand j));
       }
+
+  pub exact-of : Exact b (head-value b) (columns-value b)
+  exact-of = record { same-p = refl; same-m = refl; same-n = refl; orders = orders-stand; shifts = shifts-stand; cells = columns-stand }
 
 -- P
 

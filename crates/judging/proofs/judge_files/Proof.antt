@@ -3,77 +3,46 @@ use borrow.Author.Tests.{not-true, not-false}
 use mathlib.Core.Bool.{true}
 use mathlib.Core.Path.{_≡_, _∙_}
 use denote.Ref.{now}
-use Rattle.judging.specs.Steps.{off-verdict, answer-off-verdict, both-sound, both-verdict}
-use Rattle.reader.specs.Readings.{problem-head}
+use Rattle.rules.specs.Prepared.{Gives}
+use Rattle.reader.specs.Readings.{problem-columns}
+use Rattle.prepared.specs.Form.{form-of}
+use Rattle.judging.specs.Steps.{off-verdict, on-verdict}
 use Rattle.judging.proofs.judge_files.Statement.{statement}
 use Rattle.judging.proofs.judge_files.Tie as tie
 
 no-columns-requires : tie.Need-no-columns-requires
 no-columns-requires c κs = search needs
 
-read-problem-into-requires : tie.Need-read-problem-into-requires
-read-problem-into-requires c κs = search needs
+prepare-requires : tie.Need-prepare-requires
+prepare-requires c κs = search needs
 
 returns : tie.Need-returns
 returns c =
     let k = c .before .before .before in
-    let x = k .read-problem-into in
+    let x = k .prepare in
     let a = k .before .before .before .before .before .args in
-    off-verdict (now (a .problem)) (now (a .answer)) (x .ensures) (not-true (x .result .ok) (c .before .if1 .taken))
+    off-verdict (now (a .problem)) (now (a .answer)) (x .ensures .0) (not-true (x .result .ok) (c .before .if1 .taken))
 
--- Past the first branch the problem was read, past the second the answer.
-problem-on : (c : tie.Else1) → c .before .before .read-problem-into .result .ok ≡ true
-problem-on c = not-false (c .before .before .read-problem-into .result .ok) (c .if1 .left)
+-- Past the branch the problem was read, so that its file gives its form.
+problem-on : (c : tie.Else1) → c .before .before .prepare .result .ok ≡ true
+problem-on c = not-false (c .before .before .prepare .result .ok) (c .if1 .left)
 
-answer-on : (c : tie.Else2) → c .before .read-answer-into .result .ok ≡ true
-answer-on c = not-false (c .before .read-answer-into .result .ok) (c .if2 .left)
+gives : (c : tie.Else1) → let k = c .before .before in
+    Gives (now (k .before .before .before .before .before .args .problem)) (form-of (k .prepare .result .head) (k .prepare .last .1 .0))
+gives c = c .before .before .prepare .ensures .1 (problem-on c)
 
-no-entries-requires : tie.Need-no-entries-requires
-no-entries-requires c κs = search needs
-
-read-answer-into-requires : tie.Need-read-answer-into-requires
-read-answer-into-requires c κs =
-    let d = c .before .before .before in
-    let k = d .before .before in
-    let a = k .before .before .before .before .before .args in
-    let sound = problem-head (now (a .problem)) (k .read-problem-into .ensures) (problem-on d) in
-    ((sound .rows-most, sound .columns-most), c .before .no-entries .ensures)
+judge-answer-requires : tie.Need-judge-answer-requires
+judge-answer-requires c κs =
+    let k = c .before .before .before in
+    let s = now (k .before .before .before .before .before .args .problem) in
+    ((s, gives (c .before)), problem-columns s (k .prepare .ensures .0) (problem-on (c .before)))
 
 returns-2 : tie.Need-returns-2
 returns-2 c =
-    let y = c .before .before .read-answer-into in
-    let d = c .before .before .before .before .before .before in
+    let d = c .before .before in
     let k = d .before .before in
     let a = k .before .before .before .before .before .args in
-    answer-off-verdict (now (a .problem)) (now (a .answer)) (k .read-problem-into .ensures) (problem-on d) (y .ensures)
-    (not-true (y .result .ok) (c .before .if2 .taken))
-
-conditions-requires : tie.Need-conditions-requires
-conditions-requires c κs =
-    let e = c .before .before .before .before .before in
-    let d = e .before .before .before .before .before in
-    let k = d .before .before in
-    let a = k .before .before .before .before .before .args in
-    both-sound (now (a .problem)) (now (a .answer)) (k .read-problem-into .ensures) (problem-on d) (e .before .read-answer-into .ensures) (answer-on e)
-
-returns-3 : tie.Need-returns-3
-returns-3 c =
-    let e = c .before .before .before .before .before .before in
-    let d = e .before .before .before .before .before in
-    let k = d .before .before in
-    let a = k .before .before .before .before .before .args in
-    c .conditions .ensures
-    ∙ both-verdict (now (a .problem)) (now (a .answer)) (k .read-problem-into .ensures) (problem-on d) (e .before .read-answer-into .ensures) (answer-on e)
+    c .judge-answer .ensures ∙ on-verdict (now (a .problem)) (now (a .answer)) (k .prepare .result .head) (k .prepare .last .1 .0) (gives d)
 
 pub judge-files-spec : {M : Type 1} → statement M
-judge-files-spec =
-    tie.close
-    (tie.spec
-    no-columns-requires
-    read-problem-into-requires
-    returns
-    no-entries-requires
-    read-answer-into-requires
-    returns-2
-    conditions-requires
-    returns-3)
+judge-files-spec = tie.close (tie.spec no-columns-requires prepare-requires returns judge-answer-requires returns-2)

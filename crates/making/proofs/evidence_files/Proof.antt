@@ -20,20 +20,20 @@ use Rattle.making.proofs.evidence_files.Tie as tie
 no-columns-requires : tie.Need-no-columns-requires
 no-columns-requires c κs = search needs
 
-read-problem-into-requires : tie.Need-read-problem-into-requires
-read-problem-into-requires c κs = search needs
+prepare-requires : tie.Need-prepare-requires
+prepare-requires c κs = search needs
 
 returns : tie.Need-returns
 returns c =
     let k = c .before .before .before in
-    let x = k .read-problem-into in
+    let x = k .prepare in
     let a = k .before .before .before .before .before .before .args in
-    let e = evidence-off (now (a .problem)) (now (a .answer)) (now (a .buffer)) (x .ensures) (not-true (x .result .ok) (c .before .if1 .taken)) in
+    let e = evidence-off (now (a .problem)) (now (a .answer)) (now (a .buffer)) (x .ensures .0) (not-true (x .result .ok) (c .before .if1 .taken)) in
     (sym (ap (λ (x : Made). x .answer) e), sym (ap (λ (x : Made). x .buffer) e))
 
 -- Past the first branch the problem was read, past the second the answer.
-problem-on : (c : tie.Else1) → c .before .before .read-problem-into .result .ok ≡ true
-problem-on c = not-false (c .before .before .read-problem-into .result .ok) (c .if1 .left)
+problem-on : (c : tie.Else1) → c .before .before .prepare .result .ok ≡ true
+problem-on c = not-false (c .before .before .prepare .result .ok) (c .if1 .left)
 
 answer-on : (c : tie.Else2) → c .before .read-answer-into .result .ok ≡ true
 answer-on c = not-false (c .before .read-answer-into .result .ok) (c .if2 .left)
@@ -46,7 +46,7 @@ read-answer-into-requires c κs =
     let d = c .before .before .before in
     let k = d .before .before in
     let a = k .before .before .before .before .before .before .args in
-    let sound = problem-head (now (a .problem)) (k .read-problem-into .ensures) (problem-on d) in
+    let sound = problem-head (now (a .problem)) (k .prepare .ensures .0) (problem-on d) in
     ((sound .rows-most, sound .columns-most), c .before .no-entries .ensures)
 
 returns-2 : tie.Need-returns-2
@@ -55,7 +55,7 @@ returns-2 c =
     let d = c .before .before .before .before .before .before in
     let k = d .before .before in
     let a = k .before .before .before .before .before .before .args in
-    let e = evidence-answer-off (now (a .problem)) (now (a .answer)) (now (a .buffer)) (k .read-problem-into .ensures) (problem-on d) (y .ensures)
+    let e = evidence-answer-off (now (a .problem)) (now (a .answer)) (now (a .buffer)) (k .prepare .ensures .0) (problem-on d) (y .ensures)
     (not-true (y .result .ok) (c .before .if2 .taken)) in
     (sym (ap (λ (x : Made). x .answer) e), sym (ap (λ (x : Made). x .buffer) e))
 
@@ -69,14 +69,14 @@ put-evidence-requires c κs =
     let one = d .before .before .before .before .before in
     let k = one .before .before in
     let a = k .before .before .before .before .before .before .args in
-    let x = k .read-problem-into in
+    let x = k .prepare in
     let y = d .before .read-answer-into in
-    let sound : SoundHead (x .result .head) = problem-head (now (a .problem)) (x .ensures) (problem-on one) in (
+    let sound : SoundHead (x .result .head) = problem-head (now (a .problem)) (x .ensures .0) (problem-on one) in (
       (
         sound,
         (
-          problem-columns (now (a .problem)) (x .ensures) (problem-on one),
-          both-basis (now (a .problem)) (now (a .answer)) (now (a .buffer)) (x .ensures) (problem-on one) (y .ensures) (answer-on d),
+          problem-columns (now (a .problem)) (x .ensures .0) (problem-on one),
+          both-basis (now (a .problem)) (now (a .answer)) (now (a .buffer)) (x .ensures .0) (problem-on one) (y .ensures) (answer-on d),
         ),
       ),
       omega (arith, rectangle-most (sound .rows-most) (sound .columns-most)),
@@ -120,11 +120,11 @@ returns-3 c =
     let one = d .before .before .before .before .before in
     let k = one .before .before in
     let a = k .before .before .before .before .before .before .args in
-    let x = k .read-problem-into in
+    let x = k .prepare in
     let y = d .before .read-answer-into in
     ⊎-elim
     (λ w.
-    let e = room-lacks (now (a .problem)) (now (a .answer)) (now (a .buffer)) (x .ensures) (problem-on one) (y .ensures) (answer-on d) _ (put .last .0) (put .result) (put .ensures) (front .last .0) (c .before .before .before .before .before .before .if3 .count) (front .result) (front .ensures)
+    let e = room-lacks (now (a .problem)) (now (a .answer)) (now (a .buffer)) (x .ensures .0) (problem-on one) (y .ensures) (answer-on d) _ (put .last .0) (put .result) (put .ensures) (front .last .0) (c .before .before .before .before .before .before .if3 .count) (front .result) (front .ensures)
     (omega arith) (omega arith) in
     (sym (ap (λ (x : Made). x .answer) e), sym (ap (λ (x : Made). x .buffer) e)))
     (λ w. absurd (omega arith))
@@ -142,12 +142,12 @@ returns-4 c =
     let one = d .before .before .before .before .before in
     let k = one .before .before in
     let a = k .before .before .before .before .before .before .args in
-    let x = k .read-problem-into in
+    let x = k .prepare in
     let y = d .before .read-answer-into in
     ⊎-elim
     (λ w. absurd (omega arith))
     (λ w.
-    let e = evidence-put (now (a .problem)) (now (a .answer)) (now (a .buffer)) (x .ensures) (problem-on one) (y .ensures) (answer-on d) _ (put .last .0) (put .result) (put .ensures) (front .last .0) (c .before .before .before .before .before .before .if3 .count) (front .result) (front .ensures)
+    let e = evidence-put (now (a .problem)) (now (a .answer)) (now (a .buffer)) (x .ensures .0) (problem-on one) (y .ensures) (answer-on d) _ (put .last .0) (put .result) (put .ensures) (front .last .0) (c .before .before .before .before .before .before .if3 .count) (front .result) (front .ensures)
     (omega arith) (omega arith) in
     (sym (ap (λ (x : Made). x .answer) e), sym (ap (λ (x : Made). x .buffer) e)))
     (c .before .before .before .before .before .before .if3 .came)
@@ -157,7 +157,7 @@ evidence-files-spec =
     tie.close
     (tie.spec
     no-columns-requires
-    read-problem-into-requires
+    prepare-requires
     returns
     no-entries-requires
     read-answer-into-requires

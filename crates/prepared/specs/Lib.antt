@@ -1,0 +1,11 @@
+pub mod Settling
+pub mod Signs
+pub mod BenchPrime
+pub mod Form
+pub mod Canonical
+pub mod Counted
+pub mod Places
+pub mod Given
+pub mod Written
+pub mod Sound
+pub mod Reading
