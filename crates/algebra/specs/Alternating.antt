@@ -131,7 +131,7 @@ module _ (R : CommRing) where
 
   cons_map : (L : Row R → Row R) (r : Row R) (A : Matrix R) → ◌≡◌ {A = Matrix R} (cons (L r) (λ i. L (A i))) (λ i. L (cons r A i))
   unfolding cons
-  cons_map L r A = fun_ext (λ i. elim i [ zero ↦ refl | suc k ↦ refl ])
+  cons_map L r A = fun_ext (λ i. elim i as (λ k. cons (L r) (λ j. L (A j)) k ≡ L (cons r A k)) [ zero ↦ refl | suc k ↦ refl ])
 
   first_two_map : (n : ℕ) (L : Row R → Row R) (D : Matrix R → C) → FirstTwo n D → FirstTwo n (λ A. D (λ i. L (A i)))
   first_two_map zero L D h = tt

@@ -4,7 +4,9 @@
 use Rattle.std.specs.Prelude.{◌≡◌, refl, ◌≢◌, ◌⊎◌, ◌↔◌, [], ◌∷◌}
 use Rattle.std.proofs.Math.Path.{sym, ap}
 use Rattle.std.proofs.Common.{subst, ◌∙◌, le_of_suc-le-suc, not-suc-le-zero, zero-lt-suc, lt-suc_self, le_of_lt, suc-ne-zero}
-use Rattle.std.proofs.Math.Logic.{inl, inr, Iff·trans, Iff·symm, Dec·of-iff}
+use Rattle.std.proofs.Math.Logic.{inl, inr}
+use Rattle.std.proofs.Math.Logic.Dec
+use Rattle.std.proofs.Math.Logic.Iff
 use Prim.Native.Nat.{ℕ, zero, suc, ◌<◌}
 use Rattle.algebra.specs.Ring as Ring
 use Rattle.algebra.specs.Ring.{CommRing, Decides, Nontrivial, Inverts}
@@ -41,7 +43,7 @@ module _ (R : CommRing) where
     clear_step m n A p =
         record {
           rest = λ i j. cleared (suc i) (suc j);
-          same_dependence = Iff·trans same (pivot R (Ring.cancels_of_inverts R inv inverts) m n cleared p below);
+          same_dependence = Iff.trans same (pivot R (Ring.cancels_of_inverts R inv inverts) m n cleared p below);
           factor = A zero zero;
           factor_nonzero = p;
           same_determinant =
@@ -65,7 +67,7 @@ module _ (R : CommRing) where
         same : Dependent R (suc m) (suc n) A ↔ Dependent R (suc m) (suc n) cleared
         same =
             subst (λ M. Dependent R (suc m) (suc n) M ↔ Dependent R (suc m) (suc n) cleared) (cons_eta A)
-            (Iff·symm (dependent_clear R decides m (suc n) (A zero) multiple (λ i. A (suc i))))
+            (Iff.symm (dependent_clear R decides m (suc n) (A zero) multiple (λ i. A (suc i))))
 
     -- The first entry of row i is not 0: that row is brought to the front.
     exchange_step : (m n i : ℕ) (A : Matrix R) → i < suc m → A i zero ≢ 𝟘 → Step m n A
@@ -73,7 +75,7 @@ module _ (R : CommRing) where
     exchange_step m n (suc i) A h p =
         record {
           rest = step.rest;
-          same_dependence = Iff·trans (Iff·symm (dependent_exchange R (suc m) (suc n) zero (suc i) A (zero-lt-suc m) h)) step.same_dependence;
+          same_dependence = Iff.trans (Iff.symm (dependent_exchange R (suc m) (suc n) zero (suc i) A (zero-lt-suc m) h)) step.same_dependence;
           factor = ⊖ step.factor;
           factor_nonzero = λ e. step.factor_nonzero (sym (Ring.neg_neg R step.factor) ∙ ap (λ x. ⊖ x) e ∙ Ring.neg_zero R);
           same_determinant =
@@ -95,8 +97,8 @@ module _ (R : CommRing) where
     dependent_decides nontrivial (suc m) zero A = yes (no_columns R nontrivial m A)
     dependent_decides nontrivial (suc m) (suc n) A =
         elim (eliminate m n A) [
-          | inl z ↦ Dec·of-iff (Iff·symm (zero_column R (suc m) n A z)) (dependent_decides nontrivial (suc m) n (λ i j. A i (suc j)))
-          | inr step ↦ Dec·of-iff (Iff·symm step.same_dependence) (dependent_decides nontrivial m n step.rest)
+          | inl z ↦ Dec.of_iff (Iff.symm (zero_column R (suc m) n A z)) (dependent_decides nontrivial (suc m) n (λ i j. A i (suc j)))
+          | inr step ↦ Dec.of_iff (Iff.symm step.same_dependence) (dependent_decides nontrivial m n step.rest)
         ]
 
     -- Rows are dependent or independent.

@@ -22,7 +22,7 @@ cons r A (suc i) = A i
 -- A matrix is its first row above the others.
 pub cons_eta : {A : Type 0} (M : ℕ → A) → cons (M zero) (λ i. M (suc i)) ≡ M
 unfolding cons
-cons_eta M = fun_ext (λ i. elim i [ zero ↦ refl | suc k ↦ refl ])
+cons_eta M = fun_ext (λ i. elim i as (λ k. cons (M zero) (λ j. M (suc j)) k ≡ M k) [ zero ↦ refl | suc k ↦ refl ])
 
 -- Rows and columns change places.
 abbrev pub transpose : {A : Type 0} → (ℕ → ℕ → A) → ℕ → ℕ → A

@@ -6,7 +6,8 @@
 --   prime_of_no_small_divisor, prime_or_small_divisor    it is enough to look at the d with d · d ≤ n
 use Rattle.std.specs.Prelude.{◌≡◌, ◌≢◌, ◌⊎◌, ◌↔◌, ℕ, zero, suc, ◌+◌, ◌*◌, ◌/◌, ◌%◌, ◌≤◌, ◌<◌}
 use Rattle.std.proofs.Common.{sym, ap, ◌∙◌, inl, inr, suc-le-suc, one-mul, mul-one, add-mul, mul_assoc, mod-lt, not-suc-le-zero, mul-le-mul_left, mul-le-mul_right, pos_of_ne-zero, le_of_lt, ne_of_gt, le_trans, le_of_eq, arith}
-use Rattle.std.proofs.Math.Logic.{by_cases, Dec·and}
+use Rattle.std.proofs.Math.Logic.{by_cases}
+use Rattle.std.proofs.Math.Logic.Dec
 use Rattle.std.specs.Int.{◌∣◌}
 use Rattle.std.proofs.Math.Nat.{mod-add-div', emod_pos_of_not-dvd, lt_of_mul-lt-mul_left, le_of_dvd, dvd-mul_right, dvd-mul_left_of_dvd, dvd-add_iff_left, dvd_of_mod-eq-zero, mod-eq-zero_of_dvd, mul-div_cancel', pos_of_dvd_of_pos, dvd-mul_left}
 use Rattle.std.proofs.Math.Decide.{ℕ_discrete, dec_le, dec_dvd}
@@ -80,7 +81,7 @@ Small n d = (2 ≤ d) × ((d * d ≤ n) × (d ∣ n))
 
 -- A number from 2 on is prime or has a divisor between 1 and its square root.
 pub prime_or_small_divisor : (n : ℕ) → 2 ≤ n → Prime n ⊎ ((d : ℕ) × (2 ≤ d) × (d * d ≤ n) × (d ∣ n))
-prime_or_small_divisor n two = go (search_below (Small n) (λ d. Dec·and (dec_le 2 d) (Dec·and (dec_le (d * d) n) (dec_dvd d n))) (suc n))
+prime_or_small_divisor n two = go (search_below (Small n) (λ d. Dec.and (dec_le 2 d) (Dec.and (dec_le (d * d) n) (dec_dvd d n))) (suc n))
   where
     go : ((d : ℕ) × Small n d) ⊎ ((d : ℕ) → d < suc n → ¬ Small n d) → Prime n ⊎ ((d : ℕ) × (2 ≤ d) × (d * d ≤ n) × (d ∣ n))
     go (inl (d, (lo, (sq, h)))) = inr (d, lo, sq, h)

@@ -78,14 +78,14 @@ K p = record {
   ⊖◌ = λ x. red p (suc (pred p) - x.0);
   add_assoc = λ x y z. red_add_left p (x.0 + y.0) z.0 ∙ ap (red p) (Nat.add_assoc x.0 y.0 z.0) ∙ sym (red_add_right p x.0 (y.0 + z.0));
   add_comm = λ x y. ap (red p) (Nat.add_comm x.0 y.0);
-  add_zero = λ x. red_add_right p x.0 0 ∙ ap (red p) (Nat.add_zero x.0) ∙ red_onto p x;
+  add_zero = λ x. red_add_right p x.0 0 ∙ ap (red p) (Nat.add-zero x.0) ∙ red_onto p x;
   add_neg = λ x. red_add_right p x.0 (suc (pred p) - x.0) ∙ ap (red p) (add-sub_of_le (le_of_lt x.1)) ∙ red_modulus p;
   mul_assoc = λ x y z. red_mul_left p (x.0 * y.0) z.0 ∙ ap (red p) (Nat.mul_assoc x.0 y.0 z.0) ∙ sym (red_mul_right p x.0 (y.0 * z.0));
   mul_comm = λ x y. ap (red p) (Nat.mul_comm x.0 y.0);
-  mul_one = λ x. red_mul_right p x.0 1 ∙ ap (red p) (Nat.mul_one x.0) ∙ red_onto p x;
+  mul_one = λ x. red_mul_right p x.0 1 ∙ ap (red p) (Nat.mul-one x.0) ∙ red_onto p x;
   mul_add =
       λ x y z. red_mul_right p x.0 (y.0 + z.0)
-      ∙ ap (red p) (Nat.mul_add x.0 y.0 z.0)
+      ∙ ap (red p) (Nat.mul-add x.0 y.0 z.0)
       ∙ sym (red_add_left p (x.0 * y.0) (red p (x.0 * z.0)).0 ∙ red_add_right p (x.0 * y.0) (x.0 * z.0));
 }
 

@@ -122,7 +122,7 @@ module _ (R : CommRing) where
 
   drop_shift : (d : ℕ) (f : ℕ → C) (k : ℕ) → ((i : ℕ) → i < d → f i ≡ 𝟘) → f k ≡ shift R d (λ n. f (d + n)) k
   unfolding shift
-  drop_shift zero f k h = ap f (sym (Nat.zero_add k))
+  drop_shift zero f k h = ap f (sym (Nat.zero-add k))
   drop_shift (suc d) f zero h = h zero (Nat.zero-lt-suc d)
   drop_shift (suc d) f (suc k) h =
       drop_shift d (tail R f) k (λ i b. h (suc i) (suc-le-suc b))

@@ -86,20 +86,20 @@ module _ (R : CommRing) where
   unfolding convolve
   convolve_vanishes f g zero h = h zero zero refl
   convolve_vanishes f g (suc n) h =
-      ap₂ (λ x y. x ⊕ y) (h zero (suc n) (Nat.zero_add (suc n))) (convolve_vanishes (tail f) g n (λ i j e. h (suc i) j (Nat.suc-add i j ∙ ap suc e)))
+      ap₂ (λ x y. x ⊕ y) (h zero (suc n) (Nat.zero-add (suc n))) (convolve_vanishes (tail f) g n (λ i j e. h (suc i) j (Nat.suc-add i j ∙ ap suc e)))
       ∙ add_zero 𝟘
 
   -- The coefficient n = a + b of a product in which the terms f i · g j with i other than a are 0.
   pub convolve_single : (f g : ℕ → C) (a b n : ℕ) → a + b ≡ n → ((i j : ℕ) → i + j ≡ n → i ≢ a → f i ⊗ g j ≡ 𝟘) → convolve f g n ≡ f a ⊗ g b
   unfolding convolve
-  convolve_single f g zero b zero e h = ap (λ j. f zero ⊗ g j) (sym e ∙ Nat.zero_add b)
+  convolve_single f g zero b zero e h = ap (λ j. f zero ⊗ g j) (sym e ∙ Nat.zero-add b)
   convolve_single f g zero b (suc n) e h =
-      ap₂ (λ j y. f zero ⊗ g j ⊕ y) (sym e ∙ Nat.zero_add b)
+      ap₂ (λ j y. f zero ⊗ g j ⊕ y) (sym e ∙ Nat.zero-add b)
       (convolve_vanishes (tail f) g n (λ i j d. h (suc i) j (Nat.suc-add i j ∙ ap suc d) (Nat.suc-ne-zero i)))
       ∙ add_zero _
   convolve_single f g (suc a) b zero e h = absurd (omega arith)
   convolve_single f g (suc a) b (suc n) e h =
-      ap₂ (λ x y. x ⊕ y) (h zero (suc n) (Nat.zero_add (suc n)) (λ d. Nat.suc-ne-zero a (sym d)))
+      ap₂ (λ x y. x ⊕ y) (h zero (suc n) (Nat.zero-add (suc n)) (λ d. Nat.suc-ne-zero a (sym d)))
       (convolve_single (tail f) g a b n (omega arith) (λ i j d ne. h (suc i) j (Nat.suc-add i j ∙ ap suc d) (λ p. ne (Nat.suc_inj p))))
       ∙ Ring.zero_add R _
 
@@ -149,7 +149,7 @@ module _ (R : CommRing) where
   convolve_sum f g zero = sym (add_zero _)
   convolve_sum f g (suc n) =
       ap₂ (λ x y. x ⊕ y) (ap (λ k. f zero ⊗ g k) (sym (Nat.sub-zero (suc n))))
-      (convolve_sum (tail f) g n ∙ ap (λ t. sum R (suc n) t) (fun_ext (λ i. ap (λ k. f (suc i) ⊗ g k) (sym (Nat.suc_sub_suc n i)))))
+      (convolve_sum (tail f) g n ∙ ap (λ t. sum R (suc n) t) (fun_ext (λ i. ap (λ k. f (suc i) ⊗ g k) (sym (Nat.suc-sub-suc n i)))))
 
 module _ (R : CommRing) where
   open R use {C, 𝟘, 𝟙, ◌⊕◌, ◌⊗◌, ⊖◌, add_zero}
@@ -217,5 +217,5 @@ module _ (R : CommRing) where
   -- … and from d on those of f.
   pub shift_above : (d : ℕ) (f : ℕ → C) (k : ℕ) → shift R d f (d + k) ≡ f k
   unfolding shift
-  shift_above zero f k = ap f (Nat.zero_add k)
+  shift_above zero f k = ap f (Nat.zero-add k)
   shift_above (suc d) f k = ap (shift R (suc d) f) (Nat.suc-add d k) ∙ shift_above d f k

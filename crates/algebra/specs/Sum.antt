@@ -51,6 +51,7 @@ pub skip_below : (n k c : ℕ) → c < n → skip k c < suc n
 unfolding skip
 skip_below n zero c h = suc-le-suc h
 skip_below n (suc k) zero h = zero-lt-suc n
+skip_below zero (suc k) (suc c) h = elim h [ ]
 skip_below (suc n) (suc k) (suc c) h = suc-le-suc (skip_below n k c (le_of_suc-le-suc h))
 
 -- f with its value at k replaced by x.
@@ -77,23 +78,23 @@ replace_other (suc k) x f (suc i) h = replace_other k x (λ j. f (suc j)) i (λ 
 -- Replacing a value by itself changes nothing.
 pub replace_self : {A : Type 0} (k : ℕ) (f : ℕ → A) → replace k (f k) f ≡ f
 unfolding replace
-replace_self zero f = fun_ext (λ i. elim i [ zero ↦ refl | suc j ↦ refl ])
-replace_self (suc k) f = fun_ext (λ i. elim i [ zero ↦ refl | suc j ↦ ap (λ g. g j) (replace_self k (λ j. f (suc j))) ])
+replace_self zero f = fun_ext (λ i. elim i as (λ k. replace 0 (f 0) f k ≡ f k) [ zero ↦ refl | suc j ↦ refl ])
+replace_self (suc k) f = fun_ext (λ i. elim i as (λ l. replace (suc k) (f (suc k)) f l ≡ f l) [ zero ↦ refl | suc j ↦ ap (λ g. g j) (replace_self k (λ j. f (suc j))) ])
 
 -- Two replacements at different places may be exchanged.
 pub replace_comm : {A : Type 0} (i k : ℕ) (x y : A) (f : ℕ → A) → i ≢ k → replace i x (replace k y f) ≡ replace k y (replace i x f)
 unfolding replace
 replace_comm zero zero x y f ne = absurd (ne refl)
-replace_comm zero (suc k) x y f ne = fun_ext (λ i. elim i [ zero ↦ refl | suc j ↦ refl ])
-replace_comm (suc i) zero x y f ne = fun_ext (λ i. elim i [ zero ↦ refl | suc j ↦ refl ])
+replace_comm zero (suc k) x y f ne = fun_ext (λ i. elim i as (λ l. replace 0 x (replace (suc k) y f) l ≡ replace (suc k) y (replace 0 x f) l) [ zero ↦ refl | suc j ↦ refl ])
+replace_comm (suc i) zero x y f ne = fun_ext (λ a. elim a as (λ l. replace (suc i) x (replace 0 y f) l ≡ replace 0 y (replace (suc i) x f) l) [ zero ↦ refl | suc j ↦ refl ])
 replace_comm (suc i) (suc k) x y f ne =
-    fun_ext (λ a. elim a [ zero ↦ refl | suc j ↦ ap (λ g. g j) (replace_comm i k x y (λ j. f (suc j)) (λ e. ne (ap suc e))) ])
+    fun_ext (λ a. elim a as (λ l. replace (suc i) x (replace (suc k) y f) l ≡ replace (suc k) y (replace (suc i) x f) l) [ zero ↦ refl | suc j ↦ ap (λ g. g j) (replace_comm i k x y (λ j. f (suc j)) (λ e. ne (ap suc e))) ])
 
 -- A function applied to every value.
 pub replace_map : {A B : Type 0} (F : A → B) (k : ℕ) (x : A) (f : ℕ → A) → ◌≡◌ {A = ℕ → B} (λ a. F (replace k x f a)) (replace k (F x) (λ a. F (f a)))
 unfolding replace
-replace_map F zero x f = fun_ext (λ i. elim i [ zero ↦ refl | suc j ↦ refl ])
-replace_map F (suc k) x f = fun_ext (λ i. elim i [ zero ↦ refl | suc j ↦ ap (λ g. g j) (replace_map F k x (λ j. f (suc j))) ])
+replace_map F zero x f = fun_ext (λ i. elim i as (λ l. F (replace 0 x f l) ≡ replace 0 (F x) (λ a. F (f a)) l) [ zero ↦ refl | suc j ↦ refl ])
+replace_map F (suc k) x f = fun_ext (λ i. elim i as (λ l. F (replace (suc k) x f l) ≡ replace (suc k) (F x) (λ a. F (f a)) l) [ zero ↦ refl | suc j ↦ ap (λ g. g j) (replace_map F k x (λ j. f (suc j))) ])
 
 -- i and k change places, every other number stays.
 unfoldable pub swap : ℕ → ℕ → ℕ → ℕ

@@ -7,7 +7,7 @@
 use Rattle.std.specs.Prelude.{◌≡◌, refl, ◌≢◌, ◌↔◌, Bool, List, [], ℕ, ◌+◌, ◌-◌, ◌*◌, ◌%◌, ◌≤◌, ◌<◌, ltb, length, get_or, set}
 use Rattle.std.proofs.Common.{sym, ap, ap₂, subst, ◌∙◌, le_of_lt, mod-eq_of_lt, arith, below_more, ltb-true, ltb-false, get_or-set_same, get_or-set_other}
 use Rattle.std.proofs.Math.Path.{fun_ext}
-use Rattle.std.proofs.Math.Logic.{Iff·trans, Iff·symm}
+use Rattle.std.proofs.Math.Logic.Iff
 use Rattle.algebra.specs.Prime.{Prime}
 use Rattle.algebra.specs.Residue.{K, red, K_decides, K_nontrivial, K_inverse, K_inverts, K_cancels}
 use Rattle.algebra.specs.Sum.{swap, swap_left, swap_cases, exchange}
@@ -93,7 +93,7 @@ module _ (p : ℕ) where
       record {
         below = cleared.below;
         same =
-            Iff·trans (rest_exchange (K p) m n r c k (grid p a) low high)
+            Iff.trans (rest_exchange (K p) m n r c k (grid p a) low high)
             (subst (λ M. Rest (K p) m n r c M ↔ Rest (K p) m n (r + 1) (c + 1) (grid p b)) exchanged_grid
             (rest_clear (K p) (K_decides p) (K_cancels p prime) (K_nontrivial p prime.two_le) m n r c (grid p s) (grid p b) (red p v)
             (omega arith) hc inverts
@@ -123,7 +123,7 @@ module _ (p : ℕ) where
 
   -- At first all of a is left …
   pub left_start : (a : List (List ℕ)) (m n : ℕ) → Below p a → Left p a m n 0 0 a
-  left_start a m n below = record { row_in = omega arith; column_in = omega arith; below = below; same = Iff·symm (rest_start (K p) m n (grid p a)) }
+  left_start a m n below = record { row_in = omega arith; column_in = omega arith; below = below; same = Iff.symm (rest_start (K p) m n (grid p a)) }
 
   -- … a column with no entry other than 0 is passed …
   pub left_passed : (a : List (List ℕ)) (m n r c : ℕ) (b : List (List ℕ)) (k : ℕ) → Left p a m n r c b → c < n → Found b c r m k → m ≤ k → Left p a m n r
@@ -133,14 +133,14 @@ module _ (p : ℕ) where
         row_in = left.row_in;
         column_in = omega arith;
         below = left.below;
-        same = Iff·trans left.same (rest_zero_column (K p) m n r c (grid p b) hc (λ i lo hi. ap (red p) (found.passed i (omega arith) lo)));
+        same = Iff.trans left.same (rest_zero_column (K p) m n r c (grid p b) hc (λ i lo hi. ap (red p) (found.passed i (omega arith) lo)));
       }
 
   -- … a step goes on by a row and a column …
   pub left_stepped : (a : List (List ℕ)) (m n r c : ℕ) (b d : List (List ℕ)) → Left p a m n r c b → r < m → c < n → Stepped p b r c m n d → Left p a m n (r + 1)
       (c + 1) d
   left_stepped a m n r c b d left hr hc step =
-      record { row_in = omega arith; column_in = omega arith; below = step.below; same = Iff·trans left.same step.same }
+      record { row_in = omega arith; column_in = omega arith; below = step.below; same = Iff.trans left.same step.same }
 
   -- … and where no columns are left, the rows are dependent exactly if some are left.
   pub left_settles : 2 ≤ p → (a : List (List ℕ)) (m n r c : ℕ) (b : List (List ℕ)) → Left p a m n r c b → n ≤ c → Settles (Dependent (K p) m n (grid p a))

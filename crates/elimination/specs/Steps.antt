@@ -6,7 +6,7 @@
 use Rattle.std.specs.Prelude.{◌≡◌, ◌≢◌, ◌↔◌, [], ◌∷◌}
 use Rattle.std.proofs.Math.Path.{refl, ap}
 use Rattle.std.proofs.Common.{sym, subst, ◌∙◌, add-zero, zero-add, add-sub_of_le, arith}
-use Rattle.std.proofs.Math.Logic.{Iff·trans, Iff·symm}
+use Rattle.std.proofs.Math.Logic.Iff
 use Prim.Native.Nat.{ℕ, zero, suc, ◌+◌, ◌-◌, ◌≤◌, ◌<◌}
 use Rattle.std.proofs.Math.Nat.{sub-zero}
 use Rattle.algebra.specs.Ring.{CommRing, Decides, Cancels, Nontrivial, neg_mul, zero_mul}
@@ -67,8 +67,8 @@ module _ (R : CommRing) where
   pub rest_zero_column : (m n r c : ℕ) (A : Matrix R) → c < n → ((i : ℕ) → r ≤ i → i < m → A i c ≡ 𝟘) → Rest m n r c A ↔ Rest m n r (c + 1) A
   unfolding Rest
   rest_zero_column m n r c A h z =
-      Iff·trans (same_dependent (m - r) (n - c) (m - r) (suc (n - (c + 1))) (corner r c A) (corner r c A) refl (omega arith) (λ i j hi hj. refl))
-      (Iff·trans (zero_column R (m - r) (n - (c + 1)) (corner r c A) (λ i hi. ap (A (r + i)) (add-zero c) ∙ z (r + i) (omega arith) (omega arith)))
+      Iff.trans (same_dependent (m - r) (n - c) (m - r) (suc (n - (c + 1))) (corner r c A) (corner r c A) refl (omega arith) (λ i j hi hj. refl))
+      (Iff.trans (zero_column R (m - r) (n - (c + 1)) (corner r c A) (λ i hi. ap (A (r + i)) (add-zero c) ∙ z (r + i) (omega arith) (omega arith)))
       (same_dependent (m - r) (n - (c + 1)) (m - r) (n - (c + 1)) (λ i j. A (r + i) (c + suc j)) (corner r (c + 1) A) refl refl
       (λ i j hi hj. ap (A (r + i)) (omega arith))))
 
@@ -76,7 +76,7 @@ module _ (R : CommRing) where
   pub rest_exchange : (m n r c k : ℕ) (A : Matrix R) → r ≤ k → k < m → Rest m n r c A ↔ Rest m n r c (exchange r k A)
   unfolding Rest
   rest_exchange m n r c k A low high =
-      Iff·trans (Iff·symm (dependent_exchange R (m - r) (n - c) 0 (k - r) (corner r c A) (omega arith) (omega arith)))
+      Iff.trans (Iff.symm (dependent_exchange R (m - r) (n - c) 0 (k - r) (corner r c A) (omega arith) (omega arith)))
       (same_dependent (m - r) (n - c) (m - r) (n - c) (exchange 0 (k - r) (corner r c A)) (corner r c (exchange r k A)) refl refl
       (λ i j hi hj. ap (λ x. A x (c + j)) (place i)))
     where
@@ -91,10 +91,10 @@ module _ (R : CommRing) where
       → Rest m n r c A ↔ Rest m n (r + 1) (c + 1) B
   unfolding Rest cons
   rest_clear decides cancels nontrivial m n r c A B v hr hc inverse kept rows =
-      Iff·trans (same_dependent (m - r) (n - c) (suc m') (suc n') (corner r c A) (cons top below) (omega arith) (omega arith) before)
-      (Iff·trans (Iff·symm (dependent_clear R decides m' (suc n') top multiple below))
-      (Iff·trans (same_dependent (suc m') (suc n') (suc m') (suc n') (cons top (λ i j. below i j ⊕ multiple i ⊗ top j)) (corner r c B) refl refl after)
-      (Iff·trans (pivot R cancels m' n' (corner r c B) first_nonzero below_zero)
+      Iff.trans (same_dependent (m - r) (n - c) (suc m') (suc n') (corner r c A) (cons top below) (omega arith) (omega arith) before)
+      (Iff.trans (Iff.symm (dependent_clear R decides m' (suc n') top multiple below))
+      (Iff.trans (same_dependent (suc m') (suc n') (suc m') (suc n') (cons top (λ i j. below i j ⊕ multiple i ⊗ top j)) (corner r c B) refl refl after)
+      (Iff.trans (pivot R cancels m' n' (corner r c B) first_nonzero below_zero)
       (same_dependent m' n' m' n' (λ i j. B (r + suc i) (c + suc j)) (corner (r + 1) (c + 1) B) refl refl
       (λ i j hi hj. ap (λ x. B x (c + suc j)) (omega arith) ∙ ap (B (r + 1 + i)) (omega arith))))))
     where

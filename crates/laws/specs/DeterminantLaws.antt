@@ -6,7 +6,7 @@
 use Rattle.std.specs.Prelude.{◌≡◌, ◌≢◌, ◌↔◌, true, List, ◌+ℤ◌, ◌-ℤ◌, length}
 use Rattle.std.proofs.Math.Path.{refl, ap, subst}
 use Rattle.std.proofs.Common.{sym, ◌∙◌, le_of_suc-le-suc, not-suc-le-zero, le_refl, le_trans, suc-ne-zero, lt_of_not-le}
-use Rattle.std.proofs.Math.Logic.{Iff·trans}
+use Rattle.std.proofs.Math.Logic.Iff
 use Rattle.std.proofs.Math.Bool.{cond}
 use Rattle.std.proofs.Math.Option.{some}
 use Prim.Native.Nat.{ℕ, zero, suc, pred, ◌+◌, ◌≤◌, ◌<◌, zero-le, suc-le-suc}
@@ -134,7 +134,7 @@ module _ (b : Problem) (P : List (List (List ℕ))) where
   pub monomial_determinant_iff : (monomial_determinant b P ≡ true) ↔ Monomial (K b.p) (determinant b P)
   unfolding monomial_determinant
   monomial_determinant_iff =
-      Iff·trans (eqb_iff (count_nonzero b.p (determinant_bound b P) (determinant b P)) 1)
+      Iff.trans (eqb_iff (count_nonzero b.p (determinant_bound b P) (determinant b P)) 1)
       (count_one_iff b.p (determinant_bound b P) (determinant b P) determinant_below)
 
   -- "Δ … for a passed answer … is the exponent of X": of a reduced P whose determinant is a nonzero constant times a power of X, the

@@ -4,7 +4,7 @@
 use Rattle.std.specs.Prelude.{◌≡◌, ◌≢◌, ◌↔◌, Bool, true, false, List, [], get_or}
 use Rattle.std.proofs.Math.Path.{refl}
 use Rattle.std.proofs.Common.{sym, ap, subst, ◌∙◌, le_of_suc-le-suc, not-suc-le-zero, mod-eq_of_lt}
-use Rattle.std.proofs.Math.Logic.{Iff·trans, Iff·not}
+use Rattle.std.proofs.Math.Logic.Iff
 use Rattle.std.proofs.Math.Bool.{not}
 use Rattle.std.proofs.lemmas.Bool.{false≢true}
 use Prim.Native.Nat.{ℕ, zero, suc, ◌+◌, ◌<◌}
@@ -20,10 +20,10 @@ use Rattle.laws.specs.SearchLaws.{is_zero_iff, some_below_iff, some_below_false_
 -- CONDITION 3
 
 nonzero_iff : (p : ℕ) (x : Residue p) → (not (is_zero p x) ≡ true) ↔ (x ≢ (K p).𝟘)
-nonzero_iff p x = Iff·trans (not_iff (is_zero p x)) (Iff·not (is_zero_iff p x))
+nonzero_iff p x = Iff.trans (not_iff (is_zero p x)) (Iff.not (is_zero_iff p x))
 
 zero_iff : (p : ℕ) (x : Residue p) → (not (is_zero p x) ≡ false) ↔ (x ≡ (K p).𝟘)
-zero_iff p x = Iff·trans (not_false_iff (is_zero p x)) (is_zero_iff p x)
+zero_iff p x = Iff.trans (not_false_iff (is_zero p x)) (is_zero_iff p x)
 
 module _ (b : Problem) (P : List (List (List ℕ))) (i j : ℕ) where
   -- Some coefficient below the order is not 0 …
@@ -47,12 +47,12 @@ module _ (b : Problem) (P : List (List (List ℕ))) (i j : ℕ) where
   -- The coefficient at the order differs from C's number …
   pub order_fault_iff : (C : List (List ℕ)) → (order_fault b P C i j ≡ true) ↔ ((product b P i j (order b j)).0 ≢ get_or (get_or C i []) j 0)
   unfolding order_fault
-  order_fault_iff C = Iff·trans (not_iff _) (Iff·not (eqb_iff (product b P i j (order b j)).0 (get_or (get_or C i []) j 0)))
+  order_fault_iff C = Iff.trans (not_iff _) (Iff.not (eqb_iff (product b P i j (order b j)).0 (get_or (get_or C i []) j 0)))
 
   -- … or is that number.
   pub no_order_fault_iff : (C : List (List ℕ)) → (order_fault b P C i j ≡ false) ↔ ((product b P i j (order b j)).0 ≡ get_or (get_or C i []) j 0)
   unfolding order_fault
-  no_order_fault_iff C = Iff·trans (not_false_iff _) (eqb_iff (product b P i j (order b j)).0 (get_or (get_or C i []) j 0))
+  no_order_fault_iff C = Iff.trans (not_false_iff _) (eqb_iff (product b P i j (order b j)).0 (get_or (get_or C i []) j 0))
 
   -- Where C's number is below p, it is that number of K.
   pub order_value_iff : (C : List (List ℕ)) → 0 < b.p → get_or (get_or C i []) j 0 < b.p

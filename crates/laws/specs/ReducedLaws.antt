@@ -7,7 +7,7 @@
 use Rattle.std.specs.Prelude.{◌≡◌, ◌≢◌, ◌↔◌, true, false, List, [], ◌∷◌, ℤ, ◌+ℤ◌, ◌-ℤ◌, get_or}
 use Rattle.std.proofs.Math.Path.{refl, ap, subst}
 use Rattle.std.proofs.Common.{sym, ◌∙◌, true≢false}
-use Rattle.std.proofs.Math.Logic.{Iff·trans, Iff·not}
+use Rattle.std.proofs.Math.Logic.Iff
 use Rattle.std.proofs.Math.Option
 use Rattle.std.proofs.Math.Option.{Option, none, some}
 use Prim.Native.Nat.{ℕ, zero, suc, ◌+◌, ◌≤◌, ◌<◌}
@@ -91,7 +91,7 @@ module _ (b : Problem) (P : List (List (List ℕ))) where
   -- Condition 1: "P is reduced if the leading matrix has a determinant other than 0".
   pub reduced_iff : (reduced b P ≡ true) ↔ (det (K b.p) b.m (leading_matrix b P) ≢ (K b.p).𝟘)
   unfolding reduced
-  reduced_iff = Iff·trans (not_iff _) (Iff·not (is_zero_iff b.p (det (K b.p) b.m (leading_matrix b P))))
+  reduced_iff = Iff.trans (not_iff _) (Iff.not (is_zero_iff b.p (det (K b.p) b.m (leading_matrix b P))))
 
   -- "A zero row is never reduced."
   pub zero_row_not_reduced : (i : ℕ) → i < b.m → ((j k : ℕ) → j < b.m → red b.p (get_or (at P i j) k 0) ≡ (K b.p).𝟘) → reduced b P ≡ false

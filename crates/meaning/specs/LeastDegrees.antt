@@ -7,7 +7,8 @@
 --   degrees_agree            what two passes say of two answers to one problem
 use Rattle.std.specs.Prelude.{◌≡◌, refl, ◌≢◌, ◌↔◌, List, [], ◌∷◌, ℤ, pos, nat_abs, ◌+ℤ◌, ◌-ℤ◌, length}
 use Rattle.std.proofs.Common.{sym, ap, subst, ◌∙◌, le_of_suc-le-suc, not-suc-le-zero, zero-lt-suc, le_of_lt, lt_of_not-le, arith}
-use Rattle.std.proofs.Math.Logic.{inl, inr, Iff·trans, Iff·symm}
+use Rattle.std.proofs.Math.Logic.{inl, inr}
+use Rattle.std.proofs.Math.Logic.Iff
 use Rattle.std.proofs.Math.Option.{some}
 use Prim.Native.Nat.{ℕ, zero, suc, ◌+◌, ◌-◌, ◌%◌, ◌≤◌, ◌<◌, suc-le-suc}
 use Rattle.std.proofs.Math.Decide.{dec_le, ℕ_discrete}
@@ -161,12 +162,12 @@ module _ (c : Claim) (prime : Prime c.problem.p) (plain : Plain c) where
   degree_of_combination w D =
       let p : ℕ = c.problem.p in
       let m : ℕ = c.problem.m in
-      Iff·trans (largest_iff p positive m r w D)
-      (Iff·trans (shifted_degree_iff p positive m r (coefficients w) (λ i. (polynomial p (get_or w i [])).series) (λ i k b. refl) D)
-      (Iff·trans
+      Iff.trans (largest_iff p positive m r w D)
+      (Iff.trans (shifted_degree_iff p positive m r (coefficients w) (λ i. (polynomial p (get_or w i [])).series) (λ i k b. refl) D)
+      (Iff.trans
       (predictable_degree (K p) (K_cancels p prime) m r (shift c.problem) (series_P c) (entries_at_most c.problem c.answer.P)
       (leading_nonsingular c plain) (K_decides p) (λ i. polynomial p (get_or w i [])) D)
-      (Iff·symm (shifted_degree_iff p positive m (shift c.problem) (combined c w)
+      (Iff.symm (shifted_degree_iff p positive m (shift c.problem) (combined c w)
       (vmul (Series (K p)) m (λ i. (polynomial p (get_or w i [])).series) (series_P c))
       (λ j k b. red_row_times_column p m (λ i. get_or w i []) (λ i j. at c.answer.P i j) j k) D))))
 

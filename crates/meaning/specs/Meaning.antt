@@ -5,7 +5,7 @@
 --   passed_exponent          Δ is the exponent of X in the determinant
 use Rattle.std.specs.Prelude.{◌≡◌, ◌↔◌, [], ℕ, ◌<◌, pos, get_or}
 use Rattle.std.proofs.Common.{sym, ◌∙◌, le_of_lt, mod-eq_of_lt}
-use Rattle.std.proofs.Math.Logic.{Iff·trans, Iff·symm}
+use Rattle.std.proofs.Math.Logic.Iff
 use Rattle.std.proofs.Math.Option.{some}
 use Rattle.std.proofs.Math.Decide.{ℕ_discrete}
 use Rattle.algebra.specs.Prime.{Prime}
@@ -36,12 +36,12 @@ module _ (c : Claim) (prime : Prime c.problem.p) (C_below : (i j : ℕ) → get_
       → (SomeMonomial c × FullRank c) ↔ Generates c
   unfolding product
   generates_iff low at =
-      Iff·trans
+      Iff.trans
       (order_basis (field_of c)
       (K_decides c.problem.p) (K_inverse c.problem.p) (K_inverts c.problem.p prime) (K_nontrivial c.problem.p prime.two_le)
       c.problem.m c.problem.n (matrix_P c.problem c.answer.P) (matrix_F c.problem)
       (order c.problem) (matrix_C c.problem c.answer.C) vanishes evidence)
-      (Iff·symm (lists_iff_polynomials c positive))
+      (Iff.symm (lists_iff_polynomials c positive))
     where
       vanishes : (i : ℕ) → i < c.problem.m
           → Vanishes (field_of c) c.problem.m c.problem.n (series_F c) (order c.problem) (series_P c i)

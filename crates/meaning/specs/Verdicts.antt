@@ -7,7 +7,7 @@
 --   one_applies, verdicts_exclusive                          one holds, and no two
 use Rattle.std.specs.Prelude.{◌≡◌, refl, ◌≢◌, ◌↔◌, Bool, true, false, cond, [], ℕ, ◌+◌, ◌%◌, ◌<◌, ℤ, pos, get_or}
 use Rattle.std.proofs.Common.{sym, ap, subst, ◌∙◌}
-use Rattle.std.proofs.Math.Logic.{Iff·trans, Iff·not}
+use Rattle.std.proofs.Math.Logic.Iff
 use Rattle.std.proofs.Math.Option.{Option, none, some}
 use Rattle.algebra.specs.Residue.{red, red_value, red_zero_iff, K_decides}
 use Rattle.algebra.specs.Matrix.{Matrix, mmul}
@@ -109,7 +109,7 @@ Says c = SaysBy (Reduced c) (degree_sum c.problem c.answer.P) c
 
 module _ (m n : ℕ) (fault : ℕ → ℕ → Bool) (Fault : ℕ → ℕ → Type 0) (test : (i j : ℕ) → (fault i j ≡ true) ↔ Fault i j) where
   fails : (i j : ℕ) → (fault i j ≡ false) ↔ (¬ Fault i j)
-  fails i j = Iff·trans (false_iff (fault i j)) (Iff·not (test i j))
+  fails i j = Iff.trans (false_iff (fault i j)) (Iff.not (test i j))
 
   nowhere_iff : (first_place m n fault ≡ none) ↔ Nowhere m n Fault
   nowhere_iff = (
@@ -155,13 +155,13 @@ module _ (c : Claim) (positive : 0 < c.problem.p) where
   )
 
   low_iff : (i j : ℕ) → (low_fault c.problem c.answer.P i j ≡ true) ↔ LowFault c i j
-  low_iff i j = Iff·trans (low_fault_iff c.problem c.answer.P i j) (
+  low_iff i j = Iff.trans (low_fault_iff c.problem c.answer.P i j) (
     λ (k, h, ne). (k, h, λ e. ne ((product_zero_iff i j k).1 e)),
     λ (k, h, ne). (k, h, λ e. ne ((product_zero_iff i j k).0 e)),
   )
 
   order_iff : (i j : ℕ) → (order_fault c.problem c.answer.P c.answer.C i j ≡ true) ↔ OrderFault c i j
-  order_iff i j = Iff·trans (order_fault_iff c.problem c.answer.P i j c.answer.C) (
+  order_iff i j = Iff.trans (order_fault_iff c.problem c.answer.P i j c.answer.C) (
     λ ne e. ne (product_value i j (order c.problem j) ∙ e),
     λ ne e. ne (sym (product_value i j (order c.problem j)) ∙ e),
   )
@@ -170,7 +170,7 @@ module _ (c : Claim) (positive : 0 < c.problem.p) where
   rank_iff = rank_below_iff c.problem c.answer.P c.answer.C positive
 
   full_rank_iff : (rank_below c.problem c.answer.P c.answer.C ≡ false) ↔ FullRank c
-  full_rank_iff = Iff·trans (false_iff _) (Iff·trans (Iff·not rank_iff) (
+  full_rank_iff = Iff.trans (false_iff _) (Iff.trans (Iff.not rank_iff) (
     not_dependent_independent (field_of c) (K_decides c.problem.p) c.problem.m (c.problem.m + c.problem.n) (rank_of c),
     independent_not_dependent (field_of c) c.problem.m (c.problem.m + c.problem.n) (rank_of c),
   ))
