@@ -1,4 +1,6 @@
 // The answer file of document 01, read front to back in one pass.
+#![tactic(auto)]
+
 ghost use Rattle.std.specs.Prelude.{◌≡◌, ◌≤◌};
 ghost use Rattle.rules.specs.Sizes.{most_rows};
 ghost use Rattle.layout.specs.Flat.{filled, square, entry_coefficients};

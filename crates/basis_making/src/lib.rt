@@ -1,4 +1,6 @@
 // Document 02, L7: "The board should make an answer itself". The service that makes a basis into a lent buffer.
+#![tactic(auto)]
+
 ghost use Rattle.std.specs.Prelude.{◌≡◌, ◌≤◌, length};
 ghost use Rattle.rules.specs.Sizes.{most_order};
 ghost use Rattle.rules.specs.Writer.{write_answer};

@@ -1,4 +1,6 @@
 // What a host that is written in C calls. Each function packs what a service answers into one number.
+#![tactic(auto)]
+
 ghost use Rattle.std.specs.Prelude.{◌≡◌};
 ghost use Rattle.rules.specs.Verdict.{verdict, numbers, packed};
 ghost use Rattle.rules.specs.Reply.{reply_numbers};

@@ -3,6 +3,8 @@
 // Each number has four bytes, low byte first. Bytes after the last case are not read.
 // A bundle that can't be opened or is cut, or a number above its limit, ends the output with the line `bad bundle`, after the lines of the cases before.
 // What is printed is tested.
+#![tactic(auto)]
+
 ghost use Rattle.std.specs.Prelude.{◌≡◌, ◌+◌, ◌*◌, ◌≤◌, ◌<◌, length};
 ghost use Rattle.cases.specs.Limits.{longest, most_lent, chunk, most_digits};
 

@@ -1,5 +1,7 @@
 // A claim as the code has it: a problem and an answer, their numbers in arrays of the largest sizes, padded with zeros. What such arrays
 // stand for is said in `specs/Claims.antt`, and what the code asks of them in `specs/Sound.antt`.
+#![tactic(auto)]
+
 use layout::{COLUMN_COEFFICIENTS, ENTRY_COEFFICIENTS, ROWS, SQUARE};
 
 // The numbers of a problem beside F: the prime, the rows and the columns, the orders of the columns, the shifts of the rows.

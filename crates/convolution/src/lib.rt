@@ -2,6 +2,8 @@
 //
 // A polynomial stands in an array of CAPACITY numbers: two zeros, its coefficients from power 0 on, then zeros, at least two of them. With
 // these zeros the product of two polynomials needs no case for its ends.
+#![tactic(auto)]
+
 ghost use Rattle.std.specs.Prelude.{◌≡◌, ◌+◌, ◌*◌, ◌^◌, ◌≤◌, ◌<◌, length, replicate};
 ghost use Rattle.field.specs.Modulus.{Made};
 ghost use Rattle.layout.specs.Holds.{Each};

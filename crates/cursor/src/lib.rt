@@ -1,4 +1,6 @@
 // The fields of the two files: each a number, and the test that it has to pass.
+#![tactic(auto)]
+
 ghost use Rattle.std.specs.Prelude.{◌≡◌, cond, ◌+◌, ◌^◌, ◌<◌, nat_abs, leb, eqb};
 ghost use Rattle.rules.specs.Reader.{mark, field, unless};
 ghost use Rattle.rules.specs.Files.{allowed_prime, one_to, due, shift_in_size, coefficient_test, two's_complement};

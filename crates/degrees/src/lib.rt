@@ -1,4 +1,6 @@
 // Document 01, condition 1: the degrees of the rows for the shifts, which may be negative, and their sum. A row of zeros has none.
+#![tactic(auto)]
+
 ghost use Rattle.std.specs.Prelude.{◌≡◌, ◌+◌, ◌^◌, ◌<◌, ◌≤◌, nat_abs, ◌+ℤ◌, ◌-ℤ◌};
 ghost use Rattle.rules.specs.Conditions.{shifted_degree_of, maxZ, larger, row_degree_of, degree_sum_of};
 ghost use Rattle.rules.specs.Verdict.{natural};

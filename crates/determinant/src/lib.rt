@@ -2,6 +2,8 @@
 // determinants of the squares left. It is taken over polynomials, not at points." No square is copied: the entries stay in the one flat
 // array that the caller lends, and a square is the number of its first row and the list of its columns.
 // A polynomial of the work stands in an array as `convolution` has it.
+#![tactic(auto)]
+
 ghost use Rattle.std.specs.Prelude.{◌≡◌, pred, max, ◌+◌, ◌≤◌, ◌<◌};
 ghost use Rattle.algebra.specs.Residue.{K};
 ghost use Rattle.algebra.specs.Series.{Series};

@@ -5,6 +5,8 @@
 // low · v modulo 2^16; what q times that half carries into the high half, taken from high, leaves q times the high half of m; and times v
 // that is the high half itself. It is at most high / q. So where this computation gives more, q does not divide p, and no division is
 // needed to say so. Where it gives no more, a division settles it.
+#![tactic(auto)]
+
 ghost use Rattle.std.specs.Prelude.{◌≡◌, ◌+◌, ◌*◌, ◌/◌, ◌%◌, ◌<◌, ◌≤◌, length, if◌then◌else◌, nat_le};
 ghost use Rattle.divisors.specs.Quotient.{high_part};
 ghost use Rattle.divisors.specs.Table.{Table, Positive, left_open};

@@ -1,4 +1,6 @@
 // Document 02, L5: the answer on two files by a drawn row u and a drawn point. Any bytes and any numbers may come in.
+#![tactic(auto)]
+
 ghost use Rattle.std.specs.Prelude.{◌≡◌, ◌+◌, ◌≤◌};
 ghost use Rattle.rules.specs.Drawn.{drawn_numbers, judge_drawn};
 ghost use Rattle.rules.specs.Sizes.{most_rows};

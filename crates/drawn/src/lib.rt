@@ -1,6 +1,8 @@
 // Document 02, L5, "Judging by a drawn point": whether a claim's product may pass, by a drawn row u and a drawn point. Source document 000,
 // section 3. No product is formed: typeof.u.P comes first, a row of m polynomials, and the values of its entries at the point up to each power. With
 // these, Horner's rule gives the value of each column of typeof.u.P.F that is cut at the order, from the highest power down.
+#![tactic(auto)]
+
 ghost use Rattle.std.specs.Prelude.{◌≡◌, max, ◌+◌, ◌-◌, ◌*◌, ◌%◌, ◌<◌, ◌≤◌, get_or, length};
 ghost use Rattle.rules.specs.Sizes.{largest_prime, most_rows, most_order, most_length};
 ghost use Rattle.layout.specs.Flat.{column_place};

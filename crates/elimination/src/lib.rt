@@ -1,5 +1,7 @@
 // Whether the rows of a small matrix modulo a prime are dependent, by elimination. The matrix is handed about by value: each step
 // takes it and returns what it leaves.
+#![tactic(auto)]
+
 ghost use Rattle.std.specs.Prelude.{◌≡◌, ◌≢◌, ◌<◌, ◌≤◌};
 ghost use Rattle.algebra.specs.Prime.{Prime};
 ghost use Rattle.algebra.specs.Residue.{K};

@@ -1,4 +1,6 @@
 // The `CE` record of the evidence that a basis has, written into a lent buffer.
+#![tactic(auto)]
+
 ghost use Rattle.std.specs.Prelude.{◌≡◌, ◌+◌, ◌*◌, ◌≤◌, ◌<◌, length};
 ghost use Rattle.rules.specs.RecordBytes.{evidence_bytes};
 ghost use Rattle.rules.specs.Writer.{bytes, write_all, write_CE};

@@ -1,5 +1,7 @@
 // Document 02, L7: "the plain iteration of source document 004", order step by order step. The product of P and F is kept beside P, so that
 // a residual is looked up, and so are the row degrees.
+#![tactic(auto)]
+
 ghost use Rattle.std.specs.Prelude.{◌≡◌, ◌^◌, ◌≤◌, ◌<◌, pos, nat_abs, ◌+ℤ◌, length};
 ghost use Rattle.rules.specs.Sizes.{most_rows, most_order};
 ghost use Rattle.laws.specs.Valid.{ValidProblem};

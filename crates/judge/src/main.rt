@@ -1,4 +1,6 @@
 // judge PROBLEM ANSWER: judges two files and prints one line. The line is proved, and that it is printed is tested.
+#![tactic(auto)]
+
 ghost use Rattle.std.specs.Prelude.{◌≡◌, ◌≤◌, length};
 ghost use Rattle.rules.specs.Sizes.{read_limit};
 ghost use Rattle.rules.specs.Verdict.{verdict, numbers};

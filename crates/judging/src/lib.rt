@@ -1,5 +1,7 @@
 // The first service of document 01, the verdict on a problem and an answer, in two steps (document 02, L4): the problem is read into a prepared
 // form, and an answer is judged against it. Any bytes and any forms may come in.
+#![tactic(auto)]
+
 ghost use Rattle.std.specs.Prelude.{◌≡◌};
 ghost use Rattle.rules.specs.Verdict.{verdict};
 ghost use Rattle.rules.specs.Prepared.{Given, Judges, prepared_numbers, verdict_after};

@@ -1,4 +1,6 @@
 // The sizes of document 01 as the code has them, each named once, where a coefficient stands in a flat array, and such arrays of zeros.
+#![tactic(auto)]
+
 ghost use Rattle.std.specs.Prelude.{◌≡◌, ◌<◌};
 ghost use Rattle.rules.specs.Sizes.{most_rows, most_order, most_length};
 ghost use Rattle.layout.specs.Flat.{filled, entry_coefficients, column_coefficients, square_place, entry_place, column_place};

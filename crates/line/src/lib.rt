@@ -1,4 +1,6 @@
 // The lines that the program `judge` prints: for a verdict, and for a file that can't be opened.
+#![tactic(auto)]
+
 ghost use Rattle.std.specs.Prelude.{◌++◌, ◌+◌, ◌≤◌, length};
 ghost use Rattle.rules.specs.Verdict.{four};
 ghost use Rattle.rules.specs.Print.{digits, space, line_of, nofile_line};

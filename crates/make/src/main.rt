@@ -1,5 +1,7 @@
 // make PROBLEM STEPS OUT: makes an answer to a problem by so many order steps, writes it to the file OUT and prints one line.
 // The answer and the lines are proved; that they are written and printed is tested.
+#![tactic(auto)]
+
 ghost use Rattle.std.specs.Prelude.{◌≡◌, ◌≤◌, length};
 ghost use Rattle.rules.specs.Sizes.{read_limit};
 ghost use Rattle.rules.specs.MakeBasis.{make_basis, basis_numbers};

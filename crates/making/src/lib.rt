@@ -1,4 +1,6 @@
 // The second service of document 01: the evidence of a basis, made into a lent buffer. Any bytes may come in.
+#![tactic(auto)]
+
 ghost use Rattle.std.specs.Prelude.{◌≡◌};
 ghost use Rattle.rules.specs.Evidence.{make_evidence};
 ghost use Rattle.verdict.specs.Replies.{reply_meant};

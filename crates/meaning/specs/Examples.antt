@@ -110,7 +110,9 @@ one_vanishes (suc j) k hj hk = absurd (omega arith)
 -- … and it is no multiple of 4 + X, which is X − 1 modulo 5 and has the value 0 at 1, where 1 has the value 1.
 four_plus_X_lin : (polynomial 5 (4 ∷ 1 ∷ [])).series ≡ lin (K 5) (red 5 1)
 unfolding lin constant red
-four_plus_X_lin = series_ext (K 5) (elim [ zero ↦ refl | suc n ↦ elim n [ zero ↦ refl | suc n ↦ refl ] ])
+four_plus_X_lin =
+    series_ext (K 5)
+    (elim [ zero ↦ refl | suc n ↦ elim n as (λ k. (polynomial 5 (4 ∷ 1 ∷ [])).series (suc k) ≡ lin (K 5) (red 5 1) (suc k)) [ zero ↦ refl | suc n ↦ refl ] ])
 
 one_constant : (polynomial 5 (1 ∷ [])).series ≡ constant (K 5) (red 5 1)
 unfolding constant

@@ -1,4 +1,6 @@
 // One number of a file: one, two or four bytes, low byte first.
+#![tactic(auto)]
+
 ghost use Rattle.std.specs.Prelude.{◌≡◌, ◌+◌, ◌*◌, ◌≤◌, leb, length};
 ghost use Rattle.rules.specs.Reader.{number_at, field};
 ghost use Rattle.place.specs.Places.{place, taken};

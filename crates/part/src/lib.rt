@@ -1,4 +1,6 @@
 // The third service of document 01: the bytes that the verdict on two files points at. Any bytes may come in.
+#![tactic(auto)]
+
 ghost use Rattle.std.specs.Prelude.{◌≡◌, cond, ◌+◌, ◌-◌, ◌≤◌, eqb, length, get_or};
 ghost use Rattle.rules.specs.Conditions.{sum_below};
 ghost use Rattle.rules.specs.Sizes.{most_rows, most_order};

@@ -1,5 +1,7 @@
 // Document 02, L7, within one step: which rows are pivots, and what combination of pivot rows each other row has subtracted. The residuals
 // are eliminated beside the constants by which each row was combined, so that a row that is cleared to zero shows its combination.
+#![tactic(auto)]
+
 ghost use Rattle.std.specs.Prelude.{◌≡◌, ◌≢◌, ◌≤◌, ◌<◌, get_or};
 ghost use Rattle.algebra.specs.Prime.{Prime};
 ghost use Rattle.rules.specs.Sizes.{most_rows};

@@ -1,4 +1,6 @@
 // Where the reading stands, and how it goes on.
+#![tactic(auto)]
+
 ghost use Rattle.std.specs.Prelude.{◌≡◌, ◌+◌, ◌^◌, ◌<◌, length};
 ghost use Rattle.rules.specs.Reader.{front as front_of};
 ghost use Rattle.laws.specs.ReaderLaws.{moved};

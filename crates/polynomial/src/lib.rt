@@ -1,4 +1,6 @@
 // A polynomial modulo p by its coefficients, and whether it is a nonzero constant times a power of X.
+#![tactic(auto)]
+
 ghost use Rattle.std.specs.Prelude.{◌≡◌};
 ghost use Rattle.polynomial.specs.Coefficients.{Trimmed};
 ghost use Rattle.polynomial.specs.Count.{counted, TestsMonomial};

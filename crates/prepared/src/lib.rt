@@ -2,6 +2,8 @@
 // may hand in anything, so that every number of the arrays is looked at, p included: no seal that the caller holds would spare the test of p.
 //
 // The tests go from the cheap to the dear, and each stands for a part of `Canonical` (specs/Canonical.antt).
+#![tactic(auto)]
+
 ghost use Rattle.std.specs.Prelude.{◌≡◌, true, cond, ℕ, ◌+◌, ◌≤◌, ◌<◌, ltb, length};
 ghost use Rattle.rules.specs.Sizes.{most_rows, most_order};
 ghost use Rattle.rules.specs.Files.{read_problem};

@@ -3,6 +3,8 @@
 //
 // The table stands in four parts, because a part is copied to the stack before it is read. A part is read only if the primes before it do
 // not settle the number, so that the time grows with the number's square root.
+#![tactic(auto)]
+
 ghost use Rattle.std.specs.Prelude.{◌≡◌};
 ghost use Rattle.rules.specs.Files.{is_prime};
 

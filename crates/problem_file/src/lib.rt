@@ -1,4 +1,6 @@
 // The problem file of document 01, read front to back in one pass.
+#![tactic(auto)]
+
 ghost use Rattle.std.specs.Prelude.{◌≡◌, pos};
 ghost use Rattle.rules.specs.Sizes.{most_rows};
 ghost use Rattle.rules.specs.Files.{read_problem};

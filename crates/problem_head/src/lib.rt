@@ -1,4 +1,6 @@
 // The first record of the problem file, `PR`: the prime, the rows and the columns.
+#![tactic(auto)]
+
 ghost use Rattle.std.specs.Prelude.{◌≡◌, ◌<◌};
 ghost use Rattle.rules.specs.Files.{PR};
 ghost use Rattle.place.specs.Places.{place};

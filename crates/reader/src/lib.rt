@@ -1,4 +1,6 @@
 // The two files of document 01, each in one struct.
+#![tactic(auto)]
+
 ghost use Rattle.std.specs.Prelude.{◌≡◌, ◌≤◌};
 ghost use Rattle.rules.specs.Sizes.{most_rows};
 ghost use Rattle.rules.specs.Files.{read_problem};

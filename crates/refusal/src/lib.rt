@@ -1,4 +1,6 @@
 // A refusal of reading, as a verdict has it.
+#![tactic(auto)]
+
 ghost use Rattle.std.specs.Prelude.{◌≡◌};
 ghost use Rattle.place.specs.Places.{refusal, place};
 ghost use Rattle.refusal.specs.Narrow.{Narrow, refusal_value, no_refusal};

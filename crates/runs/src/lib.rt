@@ -1,4 +1,6 @@
 // Coefficients in a row, and rows of them.
+#![tactic(auto)]
+
 ghost use Rattle.std.specs.Prelude.{◌≡◌, ◌+◌, ◌*◌, ◌≤◌, length};
 ghost use Rattle.place.specs.Places.{place};
 ghost use Rattle.runs.specs.Stored.{stored};

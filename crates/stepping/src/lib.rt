@@ -1,5 +1,7 @@
 // Document 02, L7, one step on the rows of a matrix of polynomials: the combinations are subtracted, and each pivot is multiplied by X. The
 // rows of P and those of P.F change by the same step.
+#![tactic(auto)]
+
 ghost use Rattle.std.specs.Prelude.{◌≡◌, ◌≢◌, ◌≤◌, ◌<◌, get_or};
 ghost use Rattle.rules.specs.Sizes.{largest_prime, most_rows, most_length};
 ghost use Rattle.layout.specs.Holds.{Each};

@@ -1,5 +1,7 @@
 // What is answered: the judge's verdict and the reply of a service that writes, each with one case for each kind of answer; the four numbers
 // of an answer, and the one number that packs them.
+#![tactic(auto)]
+
 ghost use Rattle.std.specs.Prelude.{◌≡◌, ◌+◌, ◌*◌};
 ghost use Rattle.rules.specs.Verdict.{numbers, packed};
 ghost use Rattle.rules.specs.Reply.{reply_numbers};

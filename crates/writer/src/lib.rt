@@ -1,4 +1,6 @@
 // Bytes put into a lent buffer, from a place on. No other byte is touched.
+#![tactic(auto)]
+
 ghost use Rattle.std.specs.Prelude.{◌+◌, ◌≤◌, length};
 ghost use Rattle.rules.specs.Writer.{bytes};
 ghost use Rattle.rules.specs.Print.{digits};

@@ -26,86 +26,86 @@ found {q} {a} {p} i start whole square h = record {
   divides = h.divides;
 }
 
-abbrev invariant-loop : tie.invariant-loop
-invariant-loop primes inverses p from₀ from = (from ≤ length primes) × ((from % block ≡ 0) × Clear primes 0 from p)
+abbrev invariant-loop-from : tie.invariant-loop-from
+invariant-loop-from primes inverses p from₀ from = (from ≤ length primes) × ((from % block ≡ 0) × Clear primes 0 from p)
 
-abbrev decreases-loop : tie.decreases-loop
-decreases-loop primes inverses p from₀ from = length primes - from
+abbrev decreases-loop-from : tie.decreases-loop-from
+decreases-loop-from primes inverses p from₀ from = length primes - from
 
-loop-holds : tie.Need-loop-init invariant-loop decreases-loop
-loop-holds c = (omega arith, (refl, clear_empty))
+loop-from-init : tie.Need-loop-from-init invariant-loop-from decreases-loop-from
+loop-from-init c = (omega arith, (refl, clear_empty))
 
-mul_wide : tie.Need-overflow-mul-wide invariant-loop decreases-loop
-mul_wide c = search rules
+offset_bounds-primes-from : tie.Need-offset_bounds-primes-from invariant-loop-from decreases-loop-from
+offset_bounds-primes-from c = search rules
 
-shared-slice-read-wide : tie.Need-shared-slice-read-wide invariant-loop decreases-loop
-shared-slice-read-wide c = search rules
+bounds-primes-from : tie.Need-bounds-primes-from invariant-loop-from decreases-loop-from
+bounds-primes-from c = search rules
 
-wide-requires : tie.Need-wide-requires invariant-loop decreases-loop
-wide-requires c κs = search rules
+wide-first-requires : tie.Need-wide-first-requires invariant-loop-from decreases-loop-from
+wide-first-requires c κs = search rules
 
-mul-if1 : tie.Need-overflow-mul-if1 invariant-loop decreases-loop
-mul-if1 c = omega (arith, product_small c.wide.ensures.1 c.wide.ensures.1)
+overflow_mul-first : tie.Need-overflow_mul-first invariant-loop-from decreases-loop-from
+overflow_mul-first c = omega (arith, product_small c.wide-first.ensures.1 c.wide-first.ensures.1)
 
-returns : tie.Need-returns invariant-loop decreases-loop
-returns c =
+returns-then-p-first : tie.Need-returns-then-p-first invariant-loop-from decreases-loop-from
+returns-then-p-first c =
     let c₅ = c.before.before.before.before.before in
     let start = c.before.before.before.before in
-    found_none (enough c₅.before.before.requires start.loop.invariant.1.0 start.loop.invariant.1.1 (rw (sym c.before.wide.ensures.0) (omega arith)))
+    found_none (enough c₅.before.before.requires start.loop-from.invariant.1.0 start.loop-from.invariant.1.1 (rw (sym c.before.wide-first.ensures.0) (omega arith)))
 
-divisor-in-block-requires : tie.Need-divisor-in-block-requires invariant-loop decreases-loop
-divisor-in-block-requires c κs =
+divisor_in_block-requires : tie.Need-divisor_in_block-requires invariant-loop-from decreases-loop-from
+divisor_in_block-requires c κs =
     let c₅ = c.before.before.before.before.before in
     let start = c₅.before.before in
-    (start.requires, room c.before.before.before.before.loop.invariant.1.0 start.requires.blocks c.before.before.before.loop-test.true)
+    (start.requires, room c.before.before.before.before.loop-from.invariant.1.0 start.requires.blocks c.before.before.before.loop-from-test.true)
 
-returns-2 : tie.Need-returns-2 invariant-loop decreases-loop
-returns-2 c =
+returns-then-divisor_in_block : tie.Need-returns-then-divisor_in_block invariant-loop-from decreases-loop-from
+returns-then-divisor_in_block c =
     let c₅ = c.before.before.before.before.before in
-    let (i, h) = c.before.divisor-in-block.ensures.some c.if2.true in
-    found_one i (found i c₅.before.loop.invariant.1.0 (room c₅.before.loop.invariant.1.0 c₅.before.before.before.before.requires.blocks
-    c.before.before.before.before.before.loop-test.true) (rw (sym c.before.before.before.wide.ensures.0) (omega arith)) h)
+    let (i, h) = c.before.divisor_in_block.ensures.some c.if-divisor_in_block.true in
+    found_one i (found i c₅.before.loop-from.invariant.1.0 (room c₅.before.loop-from.invariant.1.0 c₅.before.before.before.before.requires.blocks
+    c.before.before.before.before.before.loop-from-test.true) (rw (sym c.before.before.before.wide-first.ensures.0) (omega arith)) h)
 
-add-from : tie.Need-overflow-add-from invariant-loop decreases-loop
-add-from c =
+overflow_add-from : tie.Need-overflow_add-from invariant-loop-from decreases-loop-from
+overflow_add-from c =
     let c₅ = c.before.before.before.before.before in
     omega (
       arith,
-      room c₅.before.loop.invariant.1.0 c₅.before.before.before.before.requires.blocks c.before.before.before.before.before.loop-test.true,
+      room c₅.before.loop-from.invariant.1.0 c₅.before.before.before.before.requires.blocks c.before.before.before.before.before.loop-from-test.true,
     )
 
-loop-less : tie.Need-loop-smaller invariant-loop decreases-loop
-loop-less c = search rules
+loop-from-smaller : tie.Need-loop-from-smaller invariant-loop-from decreases-loop-from
+loop-from-smaller c = search rules
 
-loop-again : tie.Need-loop-preserved invariant-loop decreases-loop
-loop-again c =
+loop-from-preserved : tie.Need-loop-from-preserved invariant-loop-from decreases-loop-from
+loop-from-preserved c =
     let c₅ = c.before.before.before.before.before in (
-      room c₅.before.loop.invariant.1.0 c₅.before.before.before.before.requires.blocks c.before.before.before.before.before.loop-test.true,
+      room c₅.before.loop-from.invariant.1.0 c₅.before.before.before.before.requires.blocks c.before.before.before.before.before.loop-from-test.true,
       (
-        omega (arith, c₅.before.loop.invariant.1.0),
-        clear_both c₅.before.loop.invariant.1.1
-            (record { none = λ i lo hi h. c.before.divisor-in-block.ensures.none c.if2.false i (record { start = lo; end = hi; divides = h }) }),
+        omega (arith, c₅.before.loop-from.invariant.1.0),
+        clear_both c₅.before.loop-from.invariant.1.1
+            (record { none = λ i lo hi h. c.before.divisor_in_block.ensures.none c.if-divisor_in_block.false i (record { start = lo; end = hi; divides = h }) }),
       ),
     )
 
-returns-3 : tie.Need-returns-3 invariant-loop decreases-loop
-returns-3 c = found_none (λ i h. c.before.loop.invariant.1.1.none i (omega arith) (omega (arith, h.inside)) h.divides)
+returns : tie.Need-returns invariant-loop-from decreases-loop-from
+returns c = found_none (λ i h. c.before.loop-from.invariant.1.1.none i (omega arith) (omega (arith, h.inside)) h.divides)
 
-pub divisor-among-spec : {M : Type 1} → statement M
-divisor-among-spec =
+pub divisor_among_spec : {M : Type 1} → statement M
+divisor_among_spec =
     tie.close
     (tie.spec
-    invariant-loop
-    decreases-loop
-    loop-holds
-    mul_wide
-    shared-slice-read-wide
-    wide-requires
-    mul-if1
-    returns
-    divisor-in-block-requires
-    returns-2
-    add-from
-    loop-less
-    loop-again
-    returns-3)
+    invariant-loop-from
+    decreases-loop-from
+    loop-from-init
+    offset_bounds-primes-from
+    bounds-primes-from
+    wide-first-requires
+    overflow_mul-first
+    returns-then-p-first
+    divisor_in_block-requires
+    returns-then-divisor_in_block
+    overflow_add-from
+    loop-from-smaller
+    loop-from-preserved
+    returns)

@@ -7,59 +7,59 @@ use Rattle.divisors.specs.Table.{Clear, clear_empty, clear_more}
 use Rattle.divisors.proofs.divisor_by_division.Statement.{statement}
 use Rattle.divisors.proofs.divisor_by_division.Tie as tie
 
-abbrev invariant-loop : tie.invariant-loop
-invariant-loop primes from p i₀ i = (from ≤ i) × ((i ≤ from + block) × Clear primes from i p)
+abbrev invariant-loop-i : tie.invariant-loop-i
+invariant-loop-i primes from p i₀ i = (from ≤ i) × ((i ≤ from + block) × Clear primes from i p)
 
-abbrev decreases-loop : tie.decreases-loop
-decreases-loop primes from p i₀ i = from + block - i
+abbrev decreases-loop-i : tie.decreases-loop-i
+decreases-loop-i primes from p i₀ i = from + block - i
 
-loop-holds : tie.Need-loop-init invariant-loop decreases-loop
-loop-holds c = (omega arith, (omega arith, clear_empty))
+loop-i-init : tie.Need-loop-i-init invariant-loop-i decreases-loop-i
+loop-i-init c = (omega arith, (omega arith, clear_empty))
 
-add-loop : tie.Need-overflow-add-loop invariant-loop decreases-loop
-add-loop c = search rules
+overflow_add-from : tie.Need-overflow_add-from invariant-loop-i decreases-loop-i
+overflow_add-from c = search rules
 
-mul_wide : tie.Need-overflow-mul-wide invariant-loop decreases-loop
-mul_wide c = search rules
+offset_bounds-primes-i : tie.Need-offset_bounds-primes-i invariant-loop-i decreases-loop-i
+offset_bounds-primes-i c = search rules
 
-shared-slice-read-wide : tie.Need-shared-slice-read-wide invariant-loop decreases-loop
-shared-slice-read-wide c = search rules
+bounds-primes-i : tie.Need-bounds-primes-i invariant-loop-i decreases-loop-i
+bounds-primes-i c = search rules
 
-wide-requires : tie.Need-wide-requires invariant-loop decreases-loop
+wide-requires : tie.Need-wide-requires invariant-loop-i decreases-loop-i
 wide-requires c κs = search rules
 
-rem-if1 : tie.Need-nonzero-rem-if1 invariant-loop decreases-loop
-rem-if1 c = omega (arith, c.before.before.before.before.before.requires.0.at c.before.before.before.loop.i (omega arith), c.wide.ensures.0)
+nonzero_rem-p : tie.Need-nonzero_rem-p invariant-loop-i decreases-loop-i
+nonzero_rem-p c = omega (arith, c.before.before.before.before.before.requires.0.at c.before.before.before.loop-i.i (omega arith), c.wide.ensures.0)
 
-returns : tie.Need-returns invariant-loop decreases-loop
-returns c =
+returns-then-p-wide-eq0 : tie.Need-returns-then-p-wide-eq0 invariant-loop-i decreases-loop-i
+returns-then-p-wide-eq0 c =
     let c₅ = c.before.before.before.before.before in
-    found_one c.before.before.before.before.loop.i (record {
+    found_one c.before.before.before.before.loop-i.i (record {
       start = omega arith;
       end = omega arith;
-      divides = dvd_of_mod-eq-zero _ (ap (λ x. c₅.before.args.p % x) (sym c.before.wide.ensures.0) ∙ c.if1.true);
+      divides = dvd_of_mod-eq-zero _ (ap (λ x. c₅.before.args.p % x) (sym c.before.wide.ensures.0) ∙ c.if-p-wide-eq0.true);
     })
 
-add-i : tie.Need-overflow-add-i invariant-loop decreases-loop
-add-i c = search rules
+overflow_add-i : tie.Need-overflow_add-i invariant-loop-i decreases-loop-i
+overflow_add-i c = search rules
 
-loop-less : tie.Need-loop-smaller invariant-loop decreases-loop
-loop-less c = search rules
+loop-i-smaller : tie.Need-loop-i-smaller invariant-loop-i decreases-loop-i
+loop-i-smaller c = search rules
 
-loop-again : tie.Need-loop-preserved invariant-loop decreases-loop
-loop-again c =
+loop-i-preserved : tie.Need-loop-i-preserved invariant-loop-i decreases-loop-i
+loop-i-preserved c =
     let c₅ = c.before.before.before.before.before in (
       omega arith,
       (
         omega arith,
-        clear_more refl (λ h. c.if1.false (ap (λ x. c₅.before.args.p % x) c.before.wide.ensures.0 ∙ mod-eq-zero_of_dvd _ h))
-            c.before.before.before.before.loop.invariant.1.1,
+        clear_more refl (λ h. c.if-p-wide-eq0.false (ap (λ x. c₅.before.args.p % x) c.before.wide.ensures.0 ∙ mod-eq-zero_of_dvd _ h))
+            c.before.before.before.before.loop-i.invariant.1.1,
       ),
     )
 
-returns-2 : tie.Need-returns-2 invariant-loop decreases-loop
-returns-2 c = found_none (λ i h. c.before.loop.invariant.1.1.none i h.start (omega (arith, h.end)) h.divides)
+returns : tie.Need-returns invariant-loop-i decreases-loop-i
+returns c = found_none (λ i h. c.before.loop-i.invariant.1.1.none i h.start (omega (arith, h.end)) h.divides)
 
-pub divisor-by-division-spec : {M : Type 1} → statement M
-divisor-by-division-spec = tie.close
-    (tie.spec invariant-loop decreases-loop loop-holds add-loop mul_wide shared-slice-read-wide wide-requires rem-if1 returns add-i loop-less loop-again returns-2)
+pub divisor_by_division_spec : {M : Type 1} → statement M
+divisor_by_division_spec = tie.close
+    (tie.spec invariant-loop-i decreases-loop-i loop-i-init overflow_add-from offset_bounds-primes-i bounds-primes-i wide-requires nonzero_rem-p returns-then-p-wide-eq0 overflow_add-i loop-i-smaller loop-i-preserved returns)

@@ -46,49 +46,49 @@ ended {from} {p} {d} last h k divisor = h.clear k divisor.above divisor.odd belo
           (omega arith),
     )))
 
-abbrev invariant-loop : tie.invariant-loop
-invariant-loop p from d₀ d = Tried from p d
+abbrev invariant-loop-d : tie.invariant-loop-d
+invariant-loop-d p from d₀ d = Tried from p d
 
-abbrev decreases-loop : tie.decreases-loop
-decreases-loop p from d₀ d = p - d
+abbrev decreases-loop-d : tie.decreases-loop-d
+decreases-loop-d p from d₀ d = p - d
 
-loop-holds : tie.Need-loop-init invariant-loop decreases-loop
-loop-holds c = record { reached = omega arith; three = omega arith; odd = omega arith; fits = search rules; clear = λ k lo odd hi. absurd (omega arith) }
+loop-d-init : tie.Need-loop-d-init invariant-loop-d decreases-loop-d
+loop-d-init c = record { reached = omega arith; three = omega arith; odd = omega arith; fits = search rules; clear = λ k lo odd hi. absurd (omega arith) }
 
-cast-loop : tie.Need-overflow-cast-loop invariant-loop decreases-loop
-cast-loop c = search rules
+overflow_cast-d : tie.Need-overflow_cast-d invariant-loop-d decreases-loop-d
+overflow_cast-d c = search rules
 
-cast-loop-2 : tie.Need-overflow-cast-loop-2 invariant-loop decreases-loop
-cast-loop-2 c = search rules
+overflow_cast-d-in-loop-d : tie.Need-overflow_cast-d-in-loop-d invariant-loop-d decreases-loop-d
+overflow_cast-d-in-loop-d c = search rules
 
-mul-loop : tie.Need-overflow-mul-loop invariant-loop decreases-loop
-mul-loop c = square-fits _ c.loop.invariant.fits
+overflow_mul-d : tie.Need-overflow_mul-d invariant-loop-d decreases-loop-d
+overflow_mul-d c = square-fits _ c.loop-d.invariant.fits
 
-rem-if1 : tie.Need-nonzero-rem-if1 invariant-loop decreases-loop
-rem-if1 c = search rules
+nonzero_rem-p : tie.Need-nonzero_rem-p invariant-loop-d decreases-loop-d
+nonzero_rem-p c = search rules
 
-small : (c : tie.In-loop invariant-loop decreases-loop) → 3 * c.before.loop.d ≤ c.before.before.args.p
-small c = within _ _ c.before.loop.invariant.three (omega arith)
+small : (c : tie.In-loop-d invariant-loop-d decreases-loop-d) → 3 * c.before.loop-d.d ≤ c.before.before.args.p
+small c = within _ _ c.before.loop-d.invariant.three (omega arith)
 
-returns : tie.Need-returns invariant-loop decreases-loop
-returns c = found_one c.before.before.loop.d (record {
-  above = c.before.before.loop.invariant.reached;
-  odd = c.before.before.loop.invariant.odd;
+returns-then-p-d-eq0 : tie.Need-returns-then-p-d-eq0 invariant-loop-d decreases-loop-d
+returns-then-p-d-eq0 c = found_one c.before.before.loop-d.d (record {
+  above = c.before.before.loop-d.invariant.reached;
+  odd = c.before.before.loop-d.invariant.odd;
   square = omega arith;
-  divides = dvd_of_mod-eq-zero _ c.if1.true;
+  divides = dvd_of_mod-eq-zero _ c.if-p-d-eq0.true;
 })
 
-add-d : tie.Need-overflow-add-d invariant-loop decreases-loop
-add-d c = omega (arith, small c.before)
+overflow_add-d : tie.Need-overflow_add-d invariant-loop-d decreases-loop-d
+overflow_add-d c = omega (arith, small c.before)
 
-loop-less : tie.Need-loop-smaller invariant-loop decreases-loop
-loop-less c = omega (arith, small c.before)
+loop-d-smaller : tie.Need-loop-d-smaller invariant-loop-d decreases-loop-d
+loop-d-smaller c = omega (arith, small c.before)
 
-loop-again : tie.Need-loop-preserved invariant-loop decreases-loop
-loop-again c = turned (omega (arith, small c.before)) c.if1.false c.before.before.loop.invariant
+loop-d-preserved : tie.Need-loop-d-preserved invariant-loop-d decreases-loop-d
+loop-d-preserved c = turned (omega (arith, small c.before)) c.if-p-d-eq0.false c.before.before.loop-d.invariant
 
-returns-2 : tie.Need-returns-2 invariant-loop decreases-loop
-returns-2 c = found_none (ended (omega arith) c.before.loop.invariant)
+returns : tie.Need-returns invariant-loop-d decreases-loop-d
+returns c = found_none (ended (omega arith) c.before.loop-d.invariant)
 
-pub odd-divisor-spec : {M : Type 1} → statement M
-odd-divisor-spec = tie.close (tie.spec invariant-loop decreases-loop loop-holds cast-loop cast-loop-2 mul-loop rem-if1 returns add-d loop-less loop-again returns-2)
+pub odd_divisor_spec : {M : Type 1} → statement M
+odd_divisor_spec = tie.close (tie.spec invariant-loop-d decreases-loop-d loop-d-init overflow_cast-d overflow_cast-d-in-loop-d overflow_mul-d nonzero_rem-p returns-then-p-d-eq0 overflow_add-d loop-d-smaller loop-d-preserved returns)

@@ -4,20 +4,20 @@ use Rattle.layout.specs.Flat.{square_place, entry_place}
 use Rattle.layout.proofs.entry_place.Statement.{statement}
 use Rattle.layout.proofs.entry_place.Tie as tie
 
-square-place-requires : tie.Need-square-place-requires
-square-place-requires c κs = search rules
+square_place-requires : tie.Need-square_place-requires
+square_place-requires c κs = search rules
 
-mul-result : tie.Need-overflow-mul-result
+overflow_mul-result : tie.Need-overflow_mul-result
 unfolding most_rows most_length square_place
-mul-result c = search rules
+overflow_mul-result c = search rules
 
-add-result : tie.Need-overflow-add-result
+overflow_add-result : tie.Need-overflow_add-result
 unfolding most_rows most_length square_place
-add-result c = search rules
+overflow_add-result c = search rules
 
 returns : tie.Need-returns
 unfolding most_rows most_length entry_place
 returns c = search rules
 
-pub entry-place-spec : {M : Type 1} → statement M
-entry-place-spec = tie.close (tie.spec square-place-requires mul-result add-result returns)
+pub entry_place_spec : {M : Type 1} → statement M
+entry_place_spec = tie.close (tie.spec square_place-requires overflow_mul-result overflow_add-result returns)

@@ -8,5 +8,5 @@ returns : tie.Need-returns
 unfolding filled most_rows most_order
 returns c = refl
 
-pub no-columns-spec : {M : Type 1} → statement M
-no-columns-spec = tie.close (tie.spec returns)
+pub no_columns_spec : {M : Type 1} → statement M
+no_columns_spec = tie.close (tie.spec returns)

@@ -8,5 +8,5 @@ returns : tie.Need-returns
 unfolding filled most_rows most_length
 returns c = refl
 
-pub no-entries-spec : {M : Type 1} → statement M
-no-entries-spec = tie.close (tie.spec returns)
+pub no_entries_spec : {M : Type 1} → statement M
+no_entries_spec = tie.close (tie.spec returns)
