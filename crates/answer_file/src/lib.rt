@@ -17,7 +17,7 @@ use verdict::Refusal;
 
 // The reading of an answer but for the coefficients of P: where `ok`, the lengths of P's entries and C; else the refusal. Every other number
 // is 0.
-#[derive(Drop)]
+#[derive(Clone, Copy)]
 pub struct AnswerOutline {
     pub ok: bool,
     pub refusal: Refusal,
@@ -26,7 +26,7 @@ pub struct AnswerOutline {
 }
 
 // The reading of an answer: where `ok`, the answer; else the refusal. Every other number is 0.
-#[derive(Drop)]
+#[derive(Clone, Copy)]
 pub struct ReadAnswer {
     pub ok: bool,
     pub refusal: Refusal,
@@ -34,7 +34,7 @@ pub struct ReadAnswer {
 }
 
 // An answer without its arrays.
-#[derive(Drop)]
+#[derive(Clone, Copy)]
 struct Ended {
     ok: bool,
     refusal: Refusal,

@@ -31,7 +31,7 @@ use writer::put_text;
 const ANSWER: usize = SQUARE * (5 + 4 * LENGTH) + RECORD;
 
 // The answer of the service.
-#[derive(Drop)]
+#[derive(Clone, Copy)]
 pub enum BasisReply {
     // 1 to 8
     Unread(Refusal),

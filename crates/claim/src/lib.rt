@@ -5,7 +5,7 @@
 use layout::{COLUMN_COEFFICIENTS, ENTRY_COEFFICIENTS, ROWS, SQUARE};
 
 // The numbers of a problem beside F: the prime, the rows and the columns, the orders of the columns, the shifts of the rows.
-#[derive(Drop)]
+#[derive(Clone, Copy)]
 pub struct Head {
     pub p: u32,
     pub m: usize,
@@ -15,21 +15,21 @@ pub struct Head {
 }
 
 // A problem: those numbers, and the coefficients of F.
-#[derive(Drop)]
+#[derive(Clone, Copy)]
 pub struct Problem {
     pub head: Head,
     pub f: [u32; COLUMN_COEFFICIENTS],
 }
 
 // P: how many coefficients each entry has, and the coefficients.
-#[derive(Drop)]
+#[derive(Clone, Copy)]
 pub struct Basis {
     pub lengths: [usize; SQUARE],
     pub entries: [u32; ENTRY_COEFFICIENTS],
 }
 
 // An answer: P and C.
-#[derive(Drop)]
+#[derive(Clone, Copy)]
 pub struct Answer {
     pub basis: Basis,
     pub c: [u32; SQUARE],

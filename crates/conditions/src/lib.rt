@@ -31,7 +31,7 @@ use product::fault::{FirstFault, first_low_fault, first_order_fault};
 use verdict::Verdict;
 
 // What a claim is refused for, or nothing.
-#[derive(Drop)]
+#[derive(Clone, Copy)]
 enum Finding {
     Fault(Verdict),
     Nothing,

@@ -13,7 +13,7 @@ use claim::Head;
 use layout::{SQUARE, square_place};
 
 // A degree, or none: "A zero entry has no degree", and a row with no other entry has none.
-#[derive(Drop)]
+#[derive(Clone, Copy)]
 pub enum Degree {
     Of(i32),
     None,

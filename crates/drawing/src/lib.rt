@@ -18,7 +18,7 @@ use problem_file::read_problem_into;
 use verdict::{Four, Refusal};
 
 // An answer by drawn numbers is no verdict.
-#[derive(Drop)]
+#[derive(Clone, Copy)]
 pub enum Drawn {
     MayPass,
     TurnedAway,

@@ -13,7 +13,7 @@ mod bench_field;
 pub const CUT: u64 = 1 << 40;
 
 // A modulus, and what sums of products are folded with: 2^40 modulo p.
-#[derive(Drop)]
+#[derive(Clone, Copy)]
 pub struct Modulus {
     pub p: u32,
     pub fold: u32,
@@ -104,7 +104,7 @@ fn inverse_of(a: u32, p: u32) -> u32
 }
 
 // The inverse of a number: a number, or none.
-#[derive(Drop)]
+#[derive(Clone, Copy)]
 pub enum Inverse {
     Of(u32),
     None,

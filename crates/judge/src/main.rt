@@ -16,7 +16,7 @@ use line::{ROOM, line, nofile};
 use verdict::numbers;
 
 // The first bytes of a file, or that it can't be opened or read.
-#[derive(Drop)]
+#[derive(Clone, Copy)]
 enum Loaded {
     Bytes(usize),
     Missing,

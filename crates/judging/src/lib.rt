@@ -19,7 +19,7 @@ use prepared::{given, prepare};
 use verdict::{Four, Verdict, numbers};
 
 // What an answer to a prepared problem gets.
-#[derive(Drop)]
+#[derive(Clone, Copy)]
 pub enum PreparedVerdict {
     // 20: no problem file gives the form
     NotGiven,

@@ -22,14 +22,14 @@ use writer::{put_number, put_text};
 const MOST_STEPS: u64 = 4_294_967_295;
 
 // The first bytes of a file, or that it can't be opened or read.
-#[derive(Drop)]
+#[derive(Clone, Copy)]
 enum Loaded {
     Bytes(usize),
     Missing,
 }
 
 // The number of steps, or that the argument is none.
-#[derive(Drop)]
+#[derive(Clone, Copy)]
 enum Steps {
     Count(u32),
     Bad,

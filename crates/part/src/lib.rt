@@ -17,7 +17,7 @@ use reader::read_problem;
 use verdict::Verdict;
 
 // The part of `size` bytes from `start` on, of the problem (file 0) or of the answer.
-#[derive(Drop)]
+#[derive(Clone, Copy)]
 pub struct Piece {
     pub file: u8,
     pub start: usize,
@@ -25,7 +25,7 @@ pub struct Piece {
 }
 
 // What of a verdict says where its bytes lie.
-#[derive(Drop)]
+#[derive(Clone, Copy)]
 struct Pointed {
     code: u8,
     file: u8,

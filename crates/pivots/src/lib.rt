@@ -22,7 +22,7 @@ use layout::{ROWS, SQUARE, square_place};
 
 // What a step takes: for each row 1 if it is a pivot, so that it moves by one power, and 0 if not; and the identity less the constants of
 // the combinations that are subtracted, row by row.
-#[derive(Drop)]
+#[derive(Clone, Copy)]
 pub struct Choice {
     pub moves: [usize; ROWS],
     pub factors: [u32; SQUARE],

@@ -7,7 +7,7 @@ ghost use Rattle.laws.specs.ReaderLaws.{moved};
 ghost use Rattle.place.specs.Places.{place, opened_at, after_of, closed_of, finish_of, Numbered};
 
 // File, record, the record's first byte, the next field's first byte.
-#[derive(Drop)]
+#[derive(Clone, Copy)]
 pub struct Place {
     pub file: u8,
     pub number: u16,
@@ -16,21 +16,21 @@ pub struct Place {
 }
 
 // A refusal: its code, and the place of the field refused.
-#[derive(Drop)]
+#[derive(Clone, Copy)]
 pub struct Stop {
     pub code: u8,
     pub place: Place,
 }
 
 // What one field gives: its value and the place after it, or the refusal.
-#[derive(Drop)]
+#[derive(Clone, Copy)]
 pub enum Field {
     Value(u32, Place),
     Off(Stop),
 }
 
 // What several fields give: the place after them, or the refusal. The values are stored where the caller lends room.
-#[derive(Drop)]
+#[derive(Clone, Copy)]
 pub enum Going {
     On(Place),
     Off(Stop),

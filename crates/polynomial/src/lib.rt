@@ -11,7 +11,7 @@ use layout::{LENGTH, ROWS};
 pub const COEFFICIENTS: usize = 1 + ROWS * (LENGTH - 1);
 
 // A polynomial of `length` coefficients, from power 0 on, the last of which is not 0. Everything past them is 0.
-#[derive(Drop)]
+#[derive(Clone, Copy)]
 pub struct Polynomial {
     pub coefficients: [u32; COEFFICIENTS],
     pub length: usize,

@@ -20,7 +20,7 @@ use refusal::{accepted, narrow};
 use verdict::Refusal;
 
 // The reading of a problem but for the coefficients of F: where `ok`, its numbers; else the refusal. Every other number is 0.
-#[derive(Drop)]
+#[derive(Clone, Copy)]
 pub struct ProblemOutline {
     pub ok: bool,
     pub refusal: Refusal,
@@ -28,7 +28,7 @@ pub struct ProblemOutline {
 }
 
 // The reading of a problem: where `ok`, the problem; else the refusal. Every other number is 0.
-#[derive(Drop)]
+#[derive(Clone, Copy)]
 pub struct ReadProblem {
     pub ok: bool,
     pub refusal: Refusal,
@@ -36,7 +36,7 @@ pub struct ReadProblem {
 }
 
 // A problem without its arrays.
-#[derive(Drop)]
+#[derive(Clone, Copy)]
 struct Begun {
     ok: bool,
     refusal: Refusal,

@@ -14,7 +14,7 @@ use place::{Field, Place, Stop, after, opened};
 const PR: u32 = 0x50 + 256 * 0x52;
 
 // What the `PR` record holds.
-#[derive(Drop)]
+#[derive(Clone, Copy)]
 pub struct Sizes {
     pub p: u32,
     pub m: usize,
@@ -22,7 +22,7 @@ pub struct Sizes {
 }
 
 // What reading the `PR` record gives: its numbers and the place after it, or the refusal.
-#[derive(Drop)]
+#[derive(Clone, Copy)]
 pub enum Headed {
     Got(Sizes, Place),
     Off(Stop),

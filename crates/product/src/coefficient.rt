@@ -14,7 +14,7 @@ use layout::{
 };
 
 // A sum of products, each cut in two, so that sums of the parts fit: high · 2^40 + low.
-#[derive(Drop)]
+#[derive(Clone, Copy)]
 struct Total {
     high: u64,
     low: u64,

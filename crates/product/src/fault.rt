@@ -15,7 +15,7 @@ use field::Modulus;
 use layout::{COLUMN_COEFFICIENTS, ENTRY_COEFFICIENTS, SQUARE, square_place};
 
 // The row and the column of a fault, or none.
-#[derive(Drop)]
+#[derive(Clone, Copy)]
 pub enum FirstFault {
     At(usize, usize),
     Nowhere,

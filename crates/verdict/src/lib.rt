@@ -9,7 +9,7 @@ ghost use Rattle.verdict.specs.Meant.{meant, four_of};
 ghost use Rattle.verdict.specs.Replies.{reply_meant};
 
 // A refusal of reading: its code, file and record, the offset of the field, and that of the record's first byte.
-#[derive(Drop)]
+#[derive(Clone, Copy)]
 pub struct Refusal {
     pub code: u8,
     pub file: u8,
@@ -19,7 +19,7 @@ pub struct Refusal {
 }
 
 // The answer of the judge.
-#[derive(Drop)]
+#[derive(Clone, Copy)]
 pub enum Verdict {
     // 0, with the degree sum
     Passed(u32),
@@ -38,7 +38,7 @@ pub enum Verdict {
 }
 
 // The answer of a service that writes into a lent buffer.
-#[derive(Drop)]
+#[derive(Clone, Copy)]
 pub enum Reply {
     // 1 to 8
     Unread(Refusal),
@@ -49,7 +49,7 @@ pub enum Reply {
 }
 
 // The four numbers of an answer.
-#[derive(Drop)]
+#[derive(Clone, Copy)]
 pub struct Four {
     pub code: u8,
     pub file: u8,

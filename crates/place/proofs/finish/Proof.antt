@@ -9,19 +9,19 @@ use Rattle.place.specs.Places.{opened_at}
 use Rattle.place.proofs.finish.Statement.{statement}
 use Rattle.place.proofs.finish.Tie as tie
 
-returns : tie.Need-returns
-returns c =
+returns-then-at-s : tie.Need-returns-then-at-s
+returns-then-at-s c =
     let args = c.before.before.args in
-    sym (ap (λ (b : Bool). cond b (On args.q) (Off (record { code = 8; place = opened_at args.q }))) (eq-eqb _ _ c.if1.true))
+    sym (ap (λ (b : Bool). cond b (On args.q) (Off (record { code = 8; place = opened_at args.q }))) (eq-eqb _ _ c.if-at-s.true))
 
 opened-requires : tie.Need-opened-requires
 opened-requires c κs = search rules
 
-returns-2 : tie.Need-returns-2
-returns-2 c =
+returns : tie.Need-returns
+returns c =
     let args = c.before.before.before.args in
     ap (λ (q : Spot). Off (record { code = 8; place = q })) c.opened.ensures
-    ∙ sym (ap (λ (b : Bool). cond b (On args.q) (Off (record { code = 8; place = opened_at args.q }))) (ne_eqb _ _ c.before.if1.false))
+    ∙ sym (ap (λ (b : Bool). cond b (On args.q) (Off (record { code = 8; place = opened_at args.q }))) (ne_eqb _ _ c.before.if-at-s.false))
 
 pub finish_spec : {M : Type 1} → statement M
-finish_spec = tie.close (tie.spec returns opened-requires returns-2)
+finish_spec = tie.close (tie.spec returns-then-at-s opened-requires returns)

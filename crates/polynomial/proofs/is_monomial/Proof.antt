@@ -10,69 +10,69 @@ use Rattle.polynomial.specs.Count.{nonzeros, nonzeros_more, counted_le, count_se
 use Rattle.polynomial.proofs.is_monomial.Statement.{statement}
 use Rattle.polynomial.proofs.is_monomial.Tie as tie
 
-abbrev invariant-loop : tie.invariant-loop
-invariant-loop f length n₀ k₀ n k = (n ≡ nonzeros (λ i. get_or f.coefficients i 0) k) × ((n ≤ k) × (k ≤ length))
+abbrev invariant-loop-k : tie.invariant-loop-k
+invariant-loop-k f length n₀ k₀ n k = (n ≡ nonzeros (λ i. get_or f.coefficients i 0) k) × ((n ≤ k) × (k ≤ length))
 
-abbrev decreases-loop : tie.decreases-loop
-decreases-loop f length n₀ k₀ n k = length - k
+abbrev decreases-loop-k : tie.decreases-loop-k
+decreases-loop-k f length n₀ k₀ n k = length - k
 
-loop-holds : tie.Need-loop-init invariant-loop decreases-loop
+loop-k-init : tie.Need-loop-k-init invariant-loop-k decreases-loop-k
 unfolding nonzeros
-loop-holds c = omega arith
+loop-k-init c = omega arith
 
-mul-one-if-nonzero : tie.Need-overflow-mul-one-if-nonzero invariant-loop decreases-loop
+offset_bounds-f-k : tie.Need-offset_bounds-f-k invariant-loop-k decreases-loop-k
 unfolding most_power most_rows most_length
-mul-one-if-nonzero c = omega arith
+offset_bounds-f-k c = omega arith
 
-element-copy-out-one-if-nonzero : tie.Need-element-copy-out-one-if-nonzero invariant-loop decreases-loop
+bounds-f-k : tie.Need-bounds-f-k invariant-loop-k decreases-loop-k
 unfolding most_power most_rows most_length
-element-copy-out-one-if-nonzero c = omega arith
+bounds-f-k c = omega arith
 
-one-if-nonzero-requires : tie.Need-one-if-nonzero-requires invariant-loop decreases-loop
-one-if-nonzero-requires c κs = search rules
+one_if_nonzero-n-requires : tie.Need-one_if_nonzero-n-requires invariant-loop-k decreases-loop-k
+one_if_nonzero-n-requires c κs = search rules
 
-add-n : tie.Need-overflow-add-n invariant-loop decreases-loop
+overflow_add-n : tie.Need-overflow_add-n invariant-loop-k decreases-loop-k
 unfolding most_power most_rows most_length
-add-n c = omega (
+overflow_add-n c = omega (
   arith,
-  c.one-if-nonzero.ensures,
+  c.one_if_nonzero-n.ensures,
   counted_le (get_or c.before.before.before.before.args.t1.coefficients
-      c.before.before.before.loop.k 0),
+      c.before.before.before.loop-k.k 0),
 )
 
-add-k : tie.Need-overflow-add-k invariant-loop decreases-loop
-add-k c = omega arith
+overflow_step-k : tie.Need-overflow_step-k invariant-loop-k decreases-loop-k
+overflow_step-k c = omega arith
 
-loop-less : tie.Need-loop-smaller invariant-loop decreases-loop
-loop-less c = omega arith
+loop-k-smaller : tie.Need-loop-k-smaller invariant-loop-k decreases-loop-k
+loop-k-smaller c = omega arith
 
-loop-again : tie.Need-loop-preserved invariant-loop decreases-loop
-loop-again c =
+loop-k-preserved : tie.Need-loop-k-preserved invariant-loop-k decreases-loop-k
+loop-k-preserved c =
     let l = c.before.before.before.before.args.t1.coefficients in
-    let b = c.before.before.before.loop in (
-      ap₂ (λ x y. x + y) b.invariant.0 c.one-if-nonzero.ensures ∙ sym (nonzeros_more (λ i. get_or l i 0) b.k),
-      (omega (arith, c.one-if-nonzero.ensures, counted_le (get_or l b.k 0)), omega arith),
+    let b = c.before.before.before.loop-k in (
+      ap₂ (λ x y. x + y) b.invariant.0 c.one_if_nonzero-n.ensures ∙ sym (nonzeros_more (λ i. get_or l i 0) b.k),
+      (omega (arith, c.one_if_nonzero-n.ensures, counted_le (get_or l b.k 0)), omega arith),
     )
 
-returns : tie.Need-returns invariant-loop decreases-loop
+returns : tie.Need-returns invariant-loop-k decreases-loop-k
 returns c =
     let s = c.before.before in
     let l = s.args.t1.coefficients in
-    let end : c.before.loop.k ≡ s.args.t1.length = omega arith in
-    count_settles l s.requires.zeros (ap (λ x. eqb x 1) (c.before.loop.invariant.0 ∙ ap (nonzeros (λ i. get_or l i 0)) end))
+    let end : c.before.loop-k.k ≡ s.args.t1.length = omega arith in
+    count_settles l s.requires.zeros (ap (λ x. eqb x 1) (c.before.loop-k.invariant.0 ∙ ap (nonzeros (λ i. get_or l i 0)) end))
 
-pub is-monomial-spec : {M : Type 1} → statement M
-is-monomial-spec =
+pub is_monomial_spec : {M : Type 1} → statement M
+is_monomial_spec =
     tie.close
     (tie.spec
-    invariant-loop
-    decreases-loop
-    loop-holds
-    mul-one-if-nonzero
-    element-copy-out-one-if-nonzero
-    one-if-nonzero-requires
-    add-n
-    add-k
-    loop-less
-    loop-again
+    invariant-loop-k
+    decreases-loop-k
+    loop-k-init
+    offset_bounds-f-k
+    bounds-f-k
+    one_if_nonzero-n-requires
+    overflow_add-n
+    overflow_step-k
+    loop-k-smaller
+    loop-k-preserved
     returns)

@@ -6,20 +6,20 @@ use Rattle.primality.specs.Listed.{both, rows, divisors, composite, composites, 
 use Rattle.primality.proofs.fourth.divides.Statement.{statement}
 use Rattle.primality.proofs.fourth.divides.Tie as tie
 
-slice-aggregate-divisor-among : tie.Need-slice-aggregate-divisor-among
-slice-aggregate-divisor-among c = search rules
+slice_bounds-divisor_among-end : tie.Need-slice_bounds-divisor_among-end
+slice_bounds-divisor_among-end c = search rules
 
-slice-aggregate-divisor-among-2 : tie.Need-slice-aggregate-divisor-among-2
-slice-aggregate-divisor-among-2 c = search rules
+slice_bounds-divisor_among-end-2 : tie.Need-slice_bounds-divisor_among-end-2
+slice_bounds-divisor_among-end-2 c = search rules
 
-divisor-among-requires : tie.Need-divisor-among-requires
+divisor_among-requires : tie.Need-divisor_among-requires
 unfolding both rows
-divisor-among-requires c κs = table_of_rows _ _ tt refl
+divisor_among-requires c κs = table_of_rows _ _ tt refl
 
 returns : tie.Need-returns
 unfolding both divisors composite composites gap covers
 returns c = sifted_of_found 46457 14767 _ _ _ _ tt refl (omega arith) c.before.before.before.requires
-    (divisor-among-requires c.before c.divisor-among.lifetimes) c.divisor-among.ensures
+    (divisor_among-requires c.before c.divisor_among.lifetimes) c.divisor_among.ensures
 
-pub divides-spec : {M : Type 1} → statement M
-divides-spec = tie.close (tie.spec slice-aggregate-divisor-among slice-aggregate-divisor-among-2 divisor-among-requires returns)
+pub divides_spec : {M : Type 1} → statement M
+divides_spec = tie.close (tie.spec slice_bounds-divisor_among-end slice_bounds-divisor_among-end-2 divisor_among-requires returns)

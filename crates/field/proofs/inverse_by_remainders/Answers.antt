@@ -4,19 +4,12 @@ use mathlib.Core.Path.{◌≡◌, ap, ◌∙◌}
 use Prim.Native.Nat.{ℕ, ◌-◌, ◌*◌, ◌/◌, ◌%◌, ◌≤◌, ◌<◌}
 use native.Mathlib.Nat.{mod-lt, le_of_lt}
 use native.Mathlib.Omega.{arith}
-use borrow.Author.Rules.{rules}
 use Rattle.algebra.specs.Prime.{Prime, prime_mod_pos}
 use Rattle.algebra.specs.Residue.{K, red, red_mul_one_iff, inverse_step}
 use Rattle.rules.specs.Inverse.{InverseOf}
 use Rattle.field.specs.Laws.{remainder_below, red_of_mul, red_of_neg}
-use Rattle.field.proofs.inverse_by_remainders.Statement.{statement}
-use Rattle.field.proofs.inverse_by_remainders.Tie as tie
-
-record Reached (a p r c : ℕ) : Type 0 where
-  positive : 0 < r
-  below : r < p
-  small : c < p
-  product : (K p).◌⊗◌ (red p a) (red p c) ≡ red p r
+use Rattle.field.proofs.inverse_by_remainders.Invariants.{Reached}
+use Rattle.field.proofs.inverse_by_remainders.Goals as goal
 
 started : (a p : ℕ) → 0 < a → a < p → Reached a p a 1
 started a p lo hi = record { positive = lo; below = hi; small = omega arith; product = (K p).mul_one (red p a) }
@@ -35,37 +28,17 @@ ended {a} {p} {r} {c} prime last h =
     let one : r ≡ 1 = omega arith in
     record { below = h.small; one = (red_mul_one_iff p prime.two_le a c).0 (h.product ∙ ap (red p) one) }
 
-abbrev invariant-loop : tie.invariant-loop
-invariant-loop a p r₀ c₀ r c = Reached a p r c
+pub loop-r-init : goal.loop-r-init
+loop-r-init c = started _ _ c.requires.a_nonzero c.requires.a_lt_p
 
-abbrev decreases-loop : tie.decreases-loop
-decreases-loop a p r₀ c₀ r c = r
+pub neg_mod-c-requires : goal.neg_mod-c-requires
+neg_mod-c-requires c = remainder_below _ _ _ (omega arith) c.mul_mod.ensures
 
-loop-holds : tie.Need-loop-init invariant-loop decreases-loop
-loop-holds c = started _ _ c.requires.1.0 c.requires.1.1
+pub loop-r-smaller : goal.loop-r-smaller
+loop-r-smaller c = mod-lt _ c.loop-r.invariant.positive
 
-div-quotient : tie.Need-nonzero-div-quotient invariant-loop decreases-loop
-div-quotient c = search rules
+pub loop-r-preserved : goal.loop-r-preserved
+loop-r-preserved c = turned _ _ c.requires.prime (omega arith) c.loop-r.invariant c.mul_mod.ensures c.neg_mod-c.ensures
 
-rem-rest : tie.Need-nonzero-rem-rest invariant-loop decreases-loop
-rem-rest c = search rules
-
-mul-mod-requires : tie.Need-mul-mod-requires invariant-loop decreases-loop
-mul-mod-requires c κs = search rules
-
-neg-mod-requires : tie.Need-neg-mod-requires invariant-loop decreases-loop
-neg-mod-requires c κs = remainder_below _ _ _ (omega arith) c.mul-mod.ensures
-
-loop-less : tie.Need-loop-smaller invariant-loop decreases-loop
-loop-less c = mod-lt _ c.before.before.before.loop.invariant.positive
-
-loop-again : tie.Need-loop-preserved invariant-loop decreases-loop
-loop-again c =
-    let s = c.before.before in
-    turned _ _ s.before.before.requires.0 (omega arith) s.before.loop.invariant c.before.mul-mod.ensures c.neg-mod.ensures
-
-returns : tie.Need-returns invariant-loop decreases-loop
-returns c = ended c.before.before.requires.0 (omega arith) c.before.loop.invariant
-
-pub inverse-by-remainders-spec : {M : Type 1} → statement M
-inverse-by-remainders-spec = tie.close (tie.spec invariant-loop decreases-loop loop-holds div-quotient rem-rest mul-mod-requires neg-mod-requires loop-less loop-again returns)
+pub returns : goal.returns
+returns c = ended c.requires.prime (omega arith) c.loop-r.invariant
