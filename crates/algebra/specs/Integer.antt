@@ -2,7 +2,7 @@
 --   Integers                 the ring
 --   ℤ_induction              induction by successors and predecessors
 --   *ℤ_assoc, *ℤ_+ℤ          the laws of the product beside those of lib.IntN
---   natAbs_add, natAbs_neg   how far a sum and a negative are from 0
+--   nat_abs_add, nat_abs_neg   how far a sum and a negative are from 0
 --   More x y                 y is x and a natural number more: more_self, more_trans, more_either, more_none
 use Rattle.std.specs.Prelude.{◌≡◌, refl, ◌⊎◌, Bool, true, false, cond, [], ◌∷◌, ℕ, zero, suc, ◌+◌, ◌-◌, ◌≤◌, ◌<◌, T, ltb, ℤ, pos, negsuc, nat_abs, neg_ℤ, ◌+ℤ◌, ◌-ℤ◌, ◌*ℤ◌}
 use Rattle.std.proofs.Common.{sym, ap, ap₂, ◌∙◌, inl, inr, le_refl, le_trans, arith, ltb→lt}
@@ -72,25 +72,25 @@ Integers = record {
   mul_add = *ℤ_+ℤ;
 }
 
-natAbs_subℕ : (a b : ℕ) → nat_abs (sub_ℕ a b) ≤ a + b
-natAbs_subℕ a b = go (ltb a b) (ltb→lt a b)
+nat_abs_subℕ : (a b : ℕ) → nat_abs (sub_ℕ a b) ≤ a + b
+nat_abs_subℕ a b = go (ltb a b) (ltb→lt a b)
   where
     go : (c : Bool) → (T c → a < b) → nat_abs (cond c (negsuc (b - suc a)) (pos (a - b))) ≤ a + b
     go true less = omega (arith, less tt)
     go false less = omega arith
 
 -- A sum is at most as far from 0 as its parts together …
-pub natAbs_add : (x y : ℤ) → nat_abs (x +ℤ y) ≤ nat_abs x + nat_abs y
-natAbs_add (pos a) (pos b) = le_refl (a + b)
-natAbs_add (pos a) (negsuc b) = natAbs_subℕ a (suc b)
-natAbs_add (negsuc a) (pos b) = le_trans (natAbs_subℕ b (suc a)) (omega arith)
-natAbs_add (negsuc a) (negsuc b) = omega arith
+pub nat_abs_add : (x y : ℤ) → nat_abs (x +ℤ y) ≤ nat_abs x + nat_abs y
+nat_abs_add (pos a) (pos b) = le_refl (a + b)
+nat_abs_add (pos a) (negsuc b) = nat_abs_subℕ a (suc b)
+nat_abs_add (negsuc a) (pos b) = le_trans (nat_abs_subℕ b (suc a)) (omega arith)
+nat_abs_add (negsuc a) (negsuc b) = omega arith
 
 -- … and a negative as far as the number.
-pub natAbs_neg : (x : ℤ) → nat_abs (neg_ℤ x) ≡ nat_abs x
-natAbs_neg (pos zero) = refl
-natAbs_neg (pos (suc n)) = refl
-natAbs_neg (negsuc n) = refl
+pub nat_abs_neg : (x : ℤ) → nat_abs (neg_ℤ x) ≡ nat_abs x
+nat_abs_neg (pos zero) = refl
+nat_abs_neg (pos (suc n)) = refl
+nat_abs_neg (negsuc n) = refl
 
 -- y is x and a natural number more: x is at most y.
 abbrev pub More : ℤ → ℤ → Type 0

@@ -17,7 +17,7 @@ use Rattle.rules.specs.Sizes.{most_rows, most_order}
 use Rattle.rules.specs.Claim.{Problem}
 use Rattle.rules.specs.Matrices.{order, at}
 use Rattle.rules.specs.Conditions.{max_below}
-use Rattle.rules.specs.Table.{table, getD_table, length_table, table_all, table_cong, table_ext}
+use Rattle.rules.specs.Table.{table, get_or_table, length_table, table_all, table_cong, table_ext}
 use Rattle.rules.specs.Maker.{steps_done, cut_problem}
 use Rattle.layout.specs.Flat.{column_coefficients, column_place, column_cell, column_cell_at, column_cell_past}
 use Rattle.layout.specs.Holds.{Each}
@@ -108,7 +108,7 @@ unfolding cut_columns
 cut_cell f done i j t hi hj = by_cases (dec_lt t most_order)
     (λ h.
     column_cell_at (cut_columns f done) i j t h
-    ∙ getD_table column_coefficients (λ a. cond (ltb (a % most_order) done) (get_or f a 0) 0) 0 (column_place i j t) (column_inside i j t hi hj h)
+    ∙ get_or_table column_coefficients (λ a. cond (ltb (a % most_order) done) (get_or f a 0) 0) 0 (column_place i j t) (column_inside i j t hi hj h)
     ∙ ap₂ (λ x y. cond (ltb x done) y 0) (column_power i j t h) (sym (column_cell_at f i j t h)))
     (λ nh.
     column_cell_past (cut_columns f done) i j t (omega arith)
@@ -123,7 +123,7 @@ module _ (head : Head) (f : List ℕ) (done : ℕ) (sound_head : SoundHead head)
   -- An order of the cut problem.
   cut_order_at : (j : ℕ) → j < most_rows → get_or (cut_orders head.orders done) j 0 ≡ min (get_or head.orders j 0) done
   unfolding cut_orders
-  cut_order_at j hj = getD_table most_rows (λ j. min (get_or head.orders j 0) done) 0 j hj
+  cut_order_at j hj = get_or_table most_rows (λ j. min (get_or head.orders j 0) done) 0 j hj
 
   pub cut_head_sound : SoundHead (cut_head head done)
   unfolding cut_orders
@@ -188,8 +188,8 @@ module _ (head : Head) (f : List ℕ) (done : ℕ) (sound_head : SoundHead head)
         where
           column_at : (i j : ℕ) → i < head.m → j < head.n → at (problem_of head f).F j i ≡ table (order (problem_of head f) j) (column_cell f i j)
           column_at i j hi hj =
-              ap (λ l. get_or l i []) (getD_table head.n (λ j. table head.m (λ i. table (get_or head.orders j 0) (column_cell f i j))) [] j hj)
-              ∙ getD_table head.m (λ i. table (get_or head.orders j 0) (column_cell f i j)) [] i hi
+              ap (λ l. get_or l i []) (get_or_table head.n (λ j. table head.m (λ i. table (get_or head.orders j 0) (column_cell f i j))) [] j hj)
+              ∙ get_or_table head.m (λ i. table (get_or head.orders j 0) (column_cell f i j)) [] i hi
               ∙ ap (λ d. table d (column_cell f i j)) (holds_orders head f j hj)
 
       columns_are : table head.n (λ j. table head.m (λ i. table (get_or (cut_orders head.orders done) j 0) (column_cell (cut_columns f done) i j)))

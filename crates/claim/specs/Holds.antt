@@ -10,7 +10,7 @@ use mathlib.Core.List.{List, []}
 use Rattle.std.proofs.Math.Decide.{dec_le}
 use Rattle.std.proofs.Math.ListN.{length, get_or, get_or-eq_default}
 use Rattle.rules.specs.Matrices.{at}
-use Rattle.rules.specs.Table.{table, length_table, getD_table}
+use Rattle.rules.specs.Table.{table, length_table, get_or_table}
 use Rattle.layout.specs.Flat.{square_place, length_at, shift_at, cell, column_cell}
 use Rattle.layout.specs.Holds.{EntryCells, EntryLengths, ColumnCells, Orders, Shifts, Constants}
 use Rattle.claim.specs.declared.Head.{Head}
@@ -21,20 +21,20 @@ use Rattle.claim.specs.Sound.{SoundHead, SoundColumns, SoundBasis}
 cut_off : (n : ℕ) (g : ℕ → ℕ) → ((k : ℕ) → n ≤ k → g k ≡ 0) → (k : ℕ) → g k ≡ get_or (table n g) k 0
 cut_off n g ends k = by_cases (dec_le n k)
     (λ h. ends k h ∙ sym (get_or-eq_default (table n g) 0 (omega (arith, length_table n g))))
-    (λ h. sym (getD_table n g 0 k (omega arith)))
+    (λ h. sym (get_or_table n g 0 k (omega arith)))
 
 -- An entry of a table of tables.
 at_table : (m n : ℕ) (g : ℕ → ℕ → List ℕ) (i j : ℕ) → i < m → j < n → at (table m (λ i. table n (g i))) i j ≡ g i j
-at_table m n g i j hi hj = ap (λ l. get_or l j []) (getD_table m (λ i. table n (g i)) [] i hi) ∙ getD_table n (g i) [] j hj
+at_table m n g i j hi hj = ap (λ l. get_or l j []) (get_or_table m (λ i. table n (g i)) [] i hi) ∙ get_or_table n (g i) [] j hj
 
 module _ (head : Head) (f : List ℕ) where
   pub holds_orders : Orders (problem_of head f) head.orders
   unfolding orders_of
-  holds_orders j hj = sym (getD_table head.n (λ j. get_or head.orders j 0) 0 j hj)
+  holds_orders j hj = sym (get_or_table head.n (λ j. get_or head.orders j 0) 0 j hj)
 
   pub holds_shifts : Shifts (problem_of head f) head.shifts
   unfolding shifts_of
-  holds_shifts j hj = sym (getD_table head.m (shift_at head.shifts) (pos 0) j hj)
+  holds_shifts j hj = sym (get_or_table head.m (shift_at head.shifts) (pos 0) j hj)
 
   pub holds_columns : SoundColumns head f → ColumnCells (problem_of head f) f
   unfolding columns_of
@@ -61,5 +61,5 @@ module _ (head : Head) (f : List ℕ) where
   unfolding constants_of
   holds_constants c i j hi hj =
       sym
-      (ap (λ l. get_or l j 0) (getD_table head.m (λ i. table head.n (λ j. get_or c (square_place i j) 0)) [] i hi)
-      ∙ getD_table head.n (λ j. get_or c (square_place i j) 0) 0 j hj)
+      (ap (λ l. get_or l j 0) (get_or_table head.m (λ i. table head.n (λ j. get_or c (square_place i j) 0)) [] i hi)
+      ∙ get_or_table head.n (λ j. get_or c (square_place i j) 0) 0 j hj)

@@ -43,18 +43,18 @@ abbrev pub Remainder : (p : ℕ) (sums : List ℕ) → ℕ → ℕ → Type 0
 Remainder p sums k x = x ≡ get_or sums k 0 % p
 
 -- An array of zeros.
-pub getD_zeros : (n i : ℕ) → get_or {A = ℕ} (replicate n 0) i 0 ≡ 0
-getD_zeros zero i = refl
-getD_zeros (suc n) zero = refl
-getD_zeros (suc n) (suc i) = getD_zeros n i
+pub get_or_zeros : (n i : ℕ) → get_or {A = ℕ} (replicate n 0) i 0 ≡ 0
+get_or_zeros zero i = refl
+get_or_zeros (suc n) zero = refl
+get_or_zeros (suc n) (suc i) = get_or_zeros n i
 
 module _ (P : ℕ → ℕ → Type 0) where
   pub filled_none : Filled 0 P (replicate capacity 0)
   filled_none = record {
     long = length-replicate {A = ℕ} capacity 0;
-    front = λ i h. getD_zeros capacity i;
+    front = λ i h. get_or_zeros capacity i;
     middle = λ k h. absurd (not-suc-le-zero h);
-    back = λ i h. getD_zeros capacity i;
+    back = λ i h. get_or_zeros capacity i;
   }
 
   pub filled_more : {n : ℕ} {l : List ℕ} (x : ℕ) → n + 2 < capacity → P n x → Filled n P l → Filled (n + 1) P (set l (n + 2) x)

@@ -54,6 +54,6 @@ pub cast_fits : (w : Width) → T (ltb (hbits w32) (bits w)) → {x : ℤ} → S
 cast_fits w wide {x} f t =
     subst (λ x. T (non_neg x) × Fits w (nat_abs x)) (sym (back f)) (not_negative x (below_zero_back f ∙ t), Fits-nat_abs wide f)
 
-pub natAbs_natural : (x : ℤ) → lt_z x (pos 0) ≡ false → nat_abs x ≡ natural x
-natAbs_natural (pos a) t = refl
-natAbs_natural (negsuc a) t = absurd (subst T t tt)
+pub nat_abs_natural : (x : ℤ) → lt_z x (pos 0) ≡ false → nat_abs x ≡ natural x
+nat_abs_natural (pos a) t = refl
+nat_abs_natural (negsuc a) t = absurd (subst T t tt)

@@ -8,14 +8,14 @@ use Rattle.std.proofs.Common.{sym, ◌∙◌, le_trans, arith}
 use Rattle.std.proofs.Math.Path.{ap}
 use Rattle.std.proofs.Math.Option.{Option, none, some, some-injective, none-ne-some}
 use Rattle.std.proofs.Math.IntN.{nat_abs}
-use Rattle.algebra.specs.Integer.{natAbs_add}
+use Rattle.algebra.specs.Integer.{nat_abs_add}
 use Rattle.rules.specs.Conditions.{shifted_degree_of, larger, largest, plus, total, less, row_degree_of, degree_sum_of}
 use Rattle.rules.specs.Sizes.{most_length, most_shift}
 use Rattle.laws.specs.DegreeLaws.{total_none, total_less, shifted_is}
-use Rattle.laws.specs.Magnitudes.{natAbs_largest, natAbs_total}
+use Rattle.laws.specs.Magnitudes.{nat_abs_largest, nat_abs_total}
 use Rattle.layout.specs.Flat.{square_place, length_at, shift_at}
 use Rattle.layout.specs.Holds.{Short}
-use Rattle.degrees.specs.Signed.{natAbs_minus}
+use Rattle.degrees.specs.Signed.{nat_abs_minus}
 use Rattle.degrees.specs.From.{from, from_end, from_step, from_zero}
 
 -- The lengths of P's entries and the shifts are within document 01's sizes.
@@ -85,9 +85,9 @@ module _ (lengths : List ℕ) (shifts : List ℤ) (sized : Sized lengths shifts)
   pub row_degree_size : (m i : ℕ) (r : ℤ) → row_degree_of m (length_at lengths i) (shift_at shifts) ≡ some r → nat_abs r ≤ most_length + most_shift
   unfolding row_degree_of
   row_degree_size m i =
-      natAbs_largest (most_length + most_shift) m (entry_term lengths shifts i) (λ j x b e.
+      nat_abs_largest (most_length + most_shift) m (entry_term lengths shifts i) (λ j x b e.
       let (d, l, is) = shifted_is (length_at lengths i j) (shift_at shifts j) x e in
-      omega (arith, ap nat_abs is, natAbs_add (pos d) (shift_at shifts j), sized.length_most (square_place i j), sized.shift_most j))
+      omega (arith, ap nat_abs is, nat_abs_add (pos d) (shift_at shifts j), sized.length_most (square_place i j), sized.shift_most j))
 
   pub excess_size : (m i : ℕ) (z : ℤ) → excess lengths shifts m i ≡ some z → nat_abs z ≤ most_length + most_shift + most_shift
   excess_size m i z e = by (row_degree_of m (length_at lengths i) (shift_at shifts)) refl e
@@ -96,8 +96,8 @@ module _ (lengths : List ℕ) (shifts : List ℤ) (sized : Sized lengths shifts)
           → nat_abs z ≤ most_length + most_shift + most_shift
       by none h e = absurd (none-ne-some _ e)
       by (some r) h e =
-          omega (arith, ap nat_abs (some-injective _ _ e), natAbs_minus r (shift_at shifts i), row_degree_size m i r h, sized.shift_most i)
+          omega (arith, ap nat_abs (some-injective _ _ e), nat_abs_minus r (shift_at shifts i), row_degree_size m i r h, sized.shift_most i)
 
   pub total_from_size : (m i : ℕ) (z : ℤ) → total_from (excess lengths shifts m) m i ≡ some z → nat_abs z ≤ (m - i) * (most_length + most_shift + most_shift)
   total_from_size m i =
-      natAbs_total (most_length + most_shift + most_shift) (m - i) (λ t. excess lengths shifts m (i + t)) (λ t x b. excess_size m (i + t) x)
+      nat_abs_total (most_length + most_shift + most_shift) (m - i) (λ t. excess lengths shifts m (i + t)) (λ t x b. excess_size m (i + t) x)

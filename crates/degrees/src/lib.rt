@@ -2,7 +2,7 @@
 #![tactic(auto)]
 
 ghost use Rattle.std.specs.Prelude.{◌≡◌, ◌+◌, ◌^◌, ◌<◌, ◌≤◌, nat_abs, ◌+ℤ◌, ◌-ℤ◌};
-ghost use Rattle.rules.specs.Conditions.{shifted_degree_of, maxZ, larger, row_degree_of, degree_sum_of};
+ghost use Rattle.rules.specs.Conditions.{shifted_degree_of, max_z, larger, row_degree_of, degree_sum_of};
 ghost use Rattle.rules.specs.Verdict.{natural};
 ghost use Rattle.rules.specs.Sizes.{most_rows, most_length, most_shift};
 ghost use Rattle.layout.specs.Flat.{length_at, shift_at};
@@ -40,7 +40,7 @@ pub fn minus(x: i32, y: i32) -> i32
 // x and y: any numbers.
 // The larger of the two.
 fn larger_number(x: i32, y: i32) -> i32
-    ensures { result ≡ maxZ x y }
+    ensures { result ≡ max_z x y }
 {
     if x <= y { y } else { x }
 }

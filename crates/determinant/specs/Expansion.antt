@@ -19,7 +19,7 @@ use Rattle.field.specs.declared.Modulus.{Modulus}
 use Rattle.field.specs.Modulus.{Made}
 use Rattle.layout.specs.Flat.{length_at, cell, cells}
 use Rattle.polynomial.specs.Coefficients.{most_power}
-use Rattle.convolution.specs.Padded.{Stands, Filled, Remainder, filled_small, filled_stands, getD_zeros, capacity}
+use Rattle.convolution.specs.Padded.{Stands, Filled, Remainder, filled_small, filled_stands, get_or_zeros, capacity}
 use Rattle.convolution.specs.Steps.{with_product}
 use Rattle.convolution.specs.Product.{AddedProduct, added_product}
 use Rattle.determinant.specs.Sign.{signed, SignedEntry}
@@ -58,7 +58,7 @@ pub record Expanded (p row n j : ℕ) (entries tops columns s : List ℕ) : Type
 -- Nothing has been added to sums that are 0.
 pub expanded_none : (p row n : ℕ) (entries tops columns : List ℕ) → Expanded p row n 0 entries tops columns (replicate capacity 0)
 unfolding sum
-expanded_none p row n entries tops columns = record { value = λ i. ap (red p) (getD_zeros capacity i); below = below_zero (K p) (suc (get_or tops row 0)) }
+expanded_none p row n entries tops columns = record { value = λ i. ap (red p) (get_or_zeros capacity i); below = below_zero (K p) (suc (get_or tops row 0)) }
 
 module _ {μ : Modulus} {n row : ℕ} {entries lengths tops columns : List ℕ} (asked : Asked μ (suc n) row entries lengths tops columns) where
   abbrev p : ℕ

@@ -8,7 +8,7 @@ use Rattle.std.proofs.Math.Decide.{ℕ_discrete}
 use Rattle.rules.specs.Sizes.{most_rows, most_length}
 use Rattle.layout.specs.Flat.{length_at}
 use Rattle.polynomial.specs.Coefficients.{most_power}
-use Rattle.convolution.specs.Padded.{getD_zeros}
+use Rattle.convolution.specs.Padded.{get_or_zeros}
 
 -- No power above tops i occurs in a determinant of the rows from i on.
 pub record Tops (m : ℕ) (lengths tops : List ℕ) : Type 0 where
@@ -30,9 +30,9 @@ pub record TopsFrom (i m sum : ℕ) (lengths tops : List ℕ) : Type 0 where
 -- Before the last row nothing has been found.
 pub tops_none : (m : ℕ) (lengths : List ℕ) (n : ℕ) → TopsFrom m m 0 lengths (replicate n 0)
 tops_none m lengths n = record {
-  last = getD_zeros n m;
+  last = get_or_zeros n m;
   step = λ k j le lt h. absurd (omega arith);
-  high = λ k. omega (arith, getD_zeros n k);
+  high = λ k. omega (arith, get_or_zeros n k);
   low = omega arith;
 }
 

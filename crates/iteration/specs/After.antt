@@ -12,7 +12,7 @@ use Rattle.std.proofs.Math.Decide.{dec_lt}
 use Rattle.std.proofs.Math.IntN.{+ℤ_idr}
 use Rattle.std.proofs.Math.ListN.{get_or-eq_default}
 use Rattle.algebra.specs.Residue.{K, red, red_zero}
-use Rattle.algebra.specs.Integer.{natAbs_add}
+use Rattle.algebra.specs.Integer.{nat_abs_add}
 use Rattle.algebra.specs.Clearing.{Clears}
 use Rattle.algebra.specs.PolyMatrix.{entries as series_entries}
 use Rattle.algebra.specs.Step.{once, next}
@@ -191,7 +191,7 @@ module _ (b : Problem) (valid : ValidProblem b) where
             by : (t : Bool) → c.pivot i ≡ t → i < b.m → nat_abs (degree_at degrees' i) ≤ most_shift + suc k
             by true e hi =
                 subst (λ z. nat_abs z ≤ most_shift + suc k) (sym (x.raised i hi (λ z. absurd (omega (arith, sym z ∙ chose.moves_is i ∙ ap once e)))))
-                (omega (arith, h.degrees_most i, natAbs_add (degree_at degrees i) (pos 1)))
+                (omega (arith, h.degrees_most i, nat_abs_add (degree_at degrees i) (pos 1)))
             by false e hi =
                 subst (λ z. nat_abs z ≤ most_shift + suc k) (sym (x.stays i hi (chose.moves_is i ∙ ap once e))) (omega (arith, h.degrees_most i))
 

@@ -17,7 +17,7 @@ use Rattle.rules.specs.Sizes.{most_rows, most_order, most_shift, most_length}
 use Rattle.rules.specs.Claim.{Problem}
 use Rattle.rules.specs.Matrices.{at, matrix_F, matrix_P, product}
 use Rattle.rules.specs.Maker.{basis_after}
-use Rattle.rules.specs.Table.{table, getD_table}
+use Rattle.rules.specs.Table.{table, get_or_table}
 use Rattle.laws.specs.Valid.{ValidProblem}
 use Rattle.laws.specs.MakerLaws.{after_none, after_degree_start}
 use Rattle.laws.specs.MakerPasses.{identity_made}
@@ -153,8 +153,8 @@ module _ (head : Head) (f : List ℕ) (valid : ValidProblem (problem_of head f))
   identity_entry : (i j : ℕ) → i < b.m → j < b.m → at (basis_after b 0) i j ≡ cond (eqb i j) (1 ∷ []) []
   identity_entry i j hi hj =
       ap (λ P. at P i j) (identity_made b valid)
-      ∙ ap (λ row. get_or row j []) (getD_table b.m (λ i. table b.m (λ j. cond (eqb i j) (1 ∷ []) [])) [] i hi)
-      ∙ getD_table b.m (λ j. cond (eqb i j) (1 ∷ []) []) [] j hj
+      ∙ ap (λ row. get_or row j []) (get_or_table b.m (λ i. table b.m (λ j. cond (eqb i j) (1 ∷ []) [])) [] i hi)
+      ∙ get_or_table b.m (λ j. cond (eqb i j) (1 ∷ []) []) [] j hj
 
   start_entries : (entries : List ℕ) → Unit b.m entries → (i j t : ℕ) → i < most_rows → j < most_rows → t < most_length
       → coefficient_at entries i j t ≡ get_or (at (basis_after b 0) i j) t 0

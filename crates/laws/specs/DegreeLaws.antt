@@ -12,7 +12,7 @@ use Rattle.std.specs.Int.Signed.{le_z}
 use Rattle.algebra.specs.Solver.{v0, v1, v2, v3, ◌⊞◌, ⊟◌, ring}
 use Rattle.algebra.specs.Integer.{Integers}
 use Rattle.algebra.specs.Sum.{sum}
-use Rattle.rules.specs.Conditions.{degree_of, shifted_degree_of, maxZ, larger, largest, plus, total, less}
+use Rattle.rules.specs.Conditions.{degree_of, shifted_degree_of, max_z, larger, largest, plus, total, less}
 
 -- THE LARGER OF TWO
 
@@ -35,14 +35,14 @@ other_below (negsuc a) (pos b) e = absurd (true≢false e)
 other_below (negsuc a) (negsuc b) e = le→leb a b (le_of_lt (nleb→lt b a (subst (λ x. T (not x)) (sym e) tt)))
 
 -- The larger of two is each of them and a natural number more.
-pub max_above_left : (a b : ℤ) → (k : ℕ) × (maxZ a b ≡ a +ℤ pos k)
+pub max_above_left : (a b : ℤ) → (k : ℕ) × (max_z a b ≡ a +ℤ pos k)
 max_above_left a b = go (le_z a b) refl
   where
     go : (t : Bool) → le_z a b ≡ t → (k : ℕ) × (cond t b a ≡ a +ℤ pos k)
     go true e = above a b (subst T (sym e) tt)
     go false e = (zero, sym (+ℤ_idr a))
 
-pub max_above_right : (a b : ℤ) → (k : ℕ) × (maxZ a b ≡ b +ℤ pos k)
+pub max_above_right : (a b : ℤ) → (k : ℕ) × (max_z a b ≡ b +ℤ pos k)
 max_above_right a b = go (le_z a b) refl
   where
     go : (t : Bool) → le_z a b ≡ t → (k : ℕ) × (cond t b a ≡ b +ℤ pos k)

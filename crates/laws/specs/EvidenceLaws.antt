@@ -23,7 +23,7 @@ use Rattle.rules.specs.Conditions.{order_fault}
 use Rattle.laws.specs.Valid.{ValidProblem, ValidBasis, ValidAnswer}
 use Rattle.rules.specs.Reply.{unread, no_room, written, reply_numbers, Made}
 use Rattle.rules.specs.Writer.{write_CE, write_answer}
-use Rattle.rules.specs.Table.{length_table, getD_table, table_all}
+use Rattle.rules.specs.Table.{length_table, get_or_table, table_all}
 use Rattle.rules.specs.Evidence.{evidence_of, evidence_size, make_evidence}
 use Rattle.laws.specs.ByteNumbers.{AllBytes}
 use Rattle.laws.specs.ProductLaws.{no_order_fault_iff}
@@ -44,12 +44,12 @@ module _ (b : Problem) (P : List (List (List ℕ))) where
   -- … of n numbers, …
   pub evidence_row_length : (i : ℕ) → i < b.m → length (get_or (evidence_of b P) i []) ≡ b.n
   unfolding evidence_of
-  evidence_row_length i h = ap length (getD_table b.m _ [] i h) ∙ length_table b.n _
+  evidence_row_length i h = ap length (get_or_table b.m _ [] i h) ∙ length_table b.n _
 
   -- … of which the one "for row i and column j is the coefficient of (PF) there at power d_j".
   pub evidence_number : (i j : ℕ) → i < b.m → j < b.n → get_or (get_or (evidence_of b P) i []) j 0 ≡ (product b P i j (order b j)).0
   unfolding evidence_of
-  evidence_number i j hi hj = ap (λ row. get_or row j 0) (getD_table b.m _ [] i hi) ∙ getD_table b.n _ 0 j hj
+  evidence_number i j hi hj = ap (λ row. get_or row j 0) (get_or_table b.m _ [] i hi) ∙ get_or_table b.n _ 0 j hj
 
   -- They are numbers of K.
   evidence_range : 0 < b.p → (i j : ℕ) → get_or (get_or (evidence_of b P) i []) j 0 < b.p

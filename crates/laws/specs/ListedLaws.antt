@@ -1,5 +1,5 @@
 -- Entries of P listed from polynomials: they stand for the polynomials, are within their sizes, and end in a coefficient other than 0.
---   getD_trimmed, length_trimmed, trimmed_last           a list without the zeros at its end
+--   get_or_trimmed, length_trimmed, trimmed_last           a list without the zeros at its end
 --   listed_coefficient, listed_range                     the coefficients of a polynomial as an entry
 --   list_matrix_entry_length, list_matrix_valid, list_matrix_entries       a matrix of them
 use Rattle.std.specs.Prelude.{◌≡◌, refl, ◌≢◌, Bool, true, false, cond, ℕ, zero, suc, pred, ◌≤◌, ◌<◌, eqb}
@@ -21,15 +21,15 @@ use Rattle.laws.specs.Valid.{ValidBasis}
 use Rattle.rules.specs.Table.{table}
 use Rattle.rules.specs.Maker.{trimmed, listed, list_matrix}
 use Rattle.laws.specs.BoolLaws.{eqb_iff, false_iff}
-use Rattle.rules.specs.Table.{length_table, getD_table, table_all}
+use Rattle.rules.specs.Table.{length_table, get_or_table, table_all}
 
 -- One more member in front of a list without zeros at its end.
 abbrev in_front : ℕ → List ℕ → List ℕ
 in_front x t = elim t [ [] ↦ cond (eqb x 0) [] (x ∷ []) | y ∷ r ↦ x ∷ y ∷ r ]
 
-in_front_getD : (x : ℕ) (t : List ℕ) (k : ℕ) → get_or (in_front x t) k 0 ≡ get_or (x ∷ t) k 0
-in_front_getD x (y ∷ r) k = refl
-in_front_getD x [] k = by (eqb x 0) refl k
+in_front_get_or : (x : ℕ) (t : List ℕ) (k : ℕ) → get_or (in_front x t) k 0 ≡ get_or (x ∷ t) k 0
+in_front_get_or x (y ∷ r) k = refl
+in_front_get_or x [] k = by (eqb x 0) refl k
   where
     by : (b : Bool) → eqb x 0 ≡ b → (k : ℕ) → get_or (cond b [] (x ∷ [])) k 0 ≡ get_or (x ∷ []) k 0
     by true e zero = sym ((eqb_iff x 0).0 e)
@@ -57,11 +57,11 @@ in_front_last x [] last = by (eqb x 0) refl
     by false e h = λ z. (false_iff (eqb x 0)).0 e ((eqb_iff x 0).1 z)
 
 -- The zeros at the end of a list do not count, …
-pub getD_trimmed : (l : List ℕ) (k : ℕ) → get_or (trimmed l) k 0 ≡ get_or l k 0
+pub get_or_trimmed : (l : List ℕ) (k : ℕ) → get_or (trimmed l) k 0 ≡ get_or l k 0
 unfolding trimmed
-getD_trimmed [] k = refl
-getD_trimmed (x ∷ l) zero = in_front_getD x (trimmed l) zero
-getD_trimmed (x ∷ l) (suc k) = in_front_getD x (trimmed l) (suc k) ∙ getD_trimmed l k
+get_or_trimmed [] k = refl
+get_or_trimmed (x ∷ l) zero = in_front_get_or x (trimmed l) zero
+get_or_trimmed (x ∷ l) (suc k) = in_front_get_or x (trimmed l) (suc k) ∙ get_or_trimmed l k
 
 -- … it gets no longer without them, …
 pub length_trimmed : (l : List ℕ) → length (trimmed l) ≤ length l
@@ -80,11 +80,11 @@ module _ (p : ℕ) (positive : 0 < p) (n : ℕ) (f : ℕ → Residue p) where
   pub listed_coefficient : Below (K p) n f → (k : ℕ) → red p (get_or (listed p n f) k 0) ≡ f k
   unfolding listed
   listed_coefficient below k =
-      ap (red p) (getD_trimmed (table n (λ k. (f k).0)) k)
+      ap (red p) (get_or_trimmed (table n (λ k. (f k).0)) k)
       ∙ elim (dec_le n k) [
         | yes le ↦
             ap (red p) (get_or-eq_default (table n (λ k. (f k).0)) 0 (subst (λ x. x ≤ k) (sym (length_table n (λ k. (f k).0))) le)) ∙ sym (below k le)
-        | no gt ↦ ap (red p) (getD_table n (λ k. (f k).0) 0 k (lt_of_not-le gt)) ∙ red_onto p (f k)
+        | no gt ↦ ap (red p) (get_or_table n (λ k. (f k).0) 0 k (lt_of_not-le gt)) ∙ red_onto p (f k)
       ]
 
   -- … has at most n coefficients, …
@@ -96,7 +96,7 @@ module _ (p : ℕ) (positive : 0 < p) (n : ℕ) (f : ℕ → Residue p) where
   pub listed_range : (k : ℕ) → get_or (listed p n f) k 0 < p
   unfolding listed
   listed_range k =
-      subst (λ x. x < p) (sym (getD_trimmed (table n (λ k. (f k).0)) k))
+      subst (λ x. x < p) (sym (get_or_trimmed (table n (λ k. (f k).0)) k))
       (table_all n (λ k. (f k).0) 0 (λ x. x < p) positive (λ k. residue_below p positive (f k)) k)
 
   -- … and the last is not 0.
@@ -115,8 +115,8 @@ module _ (b : Problem) (positive : 0 < b.p) (n : ℕ) (M : Matrix (Series (K b.p
   entry_is : (i j : ℕ) → i < b.m → j < b.m → at (list_matrix b.p b.m n M) i j ≡ listed b.p n (M i j)
   unfolding list_matrix
   entry_is i j hi hj =
-      ap (λ row. get_or row j []) (getD_table b.m (λ i. table b.m (λ j. listed b.p n (M i j))) [] i hi)
-      ∙ getD_table b.m (λ j. listed b.p n (M i j)) [] j hj
+      ap (λ row. get_or row j []) (get_or_table b.m (λ i. table b.m (λ j. listed b.p n (M i j))) [] i hi)
+      ∙ get_or_table b.m (λ j. listed b.p n (M i j)) [] j hj
 
   -- An entry of the matrix has at most n coefficients, …
   pub list_matrix_entry_length : (i j : ℕ) → length (at (list_matrix b.p b.m n M) i j) ≤ n
@@ -127,7 +127,7 @@ module _ (b : Problem) (positive : 0 < b.p) (n : ℕ) (M : Matrix (Series (K b.p
   unfolding list_matrix
   list_matrix_valid small = record {
     P_length = length_table b.m _;
-    P_row_length = λ i hi. ap length (getD_table b.m _ [] i hi) ∙ length_table b.m _;
+    P_row_length = λ i hi. ap length (get_or_table b.m _ [] i hi) ∙ length_table b.m _;
     P_entry_length = λ i j. le_trans (list_matrix_entry_length i j) small;
     P_range = λ i j k. every_entry (λ l. get_or l k 0 < b.p) positive (λ i j. listed_range b.p positive n (M i j) k) i j;
     P_last = every_entry LastNonzero (λ h. absurd (omega arith)) (λ i j. listed_last b.p positive n (M i j));

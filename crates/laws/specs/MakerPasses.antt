@@ -46,7 +46,7 @@ use Rattle.laws.specs.SearchLaws.{first_place_none}
 use Rattle.laws.specs.ReducedLaws.{reduced_iff}
 use Rattle.laws.specs.DeterminantLaws.{le_max_below, monomial_determinant_iff, degree_sum_exponent}
 use Rattle.laws.specs.ProductLaws.{no_low_fault_iff, rank_below_iff}
-use Rattle.rules.specs.Table.{length_table, getD_table, table_all}
+use Rattle.rules.specs.Table.{length_table, get_or_table, table_all}
 use Rattle.laws.specs.EvidenceLaws.{evidence_number, evidence_no_order_fault, evidence_valid}
 use Rattle.laws.specs.RoundTrip.{read_written_claim}
 use Rattle.laws.specs.VerdictLaws.{verdict_of_claim}
@@ -72,12 +72,12 @@ module _ (b : Problem) (k : ℕ) where
   -- Each order is replaced "by the smaller of it and b", …
   pub cut_order : (j : ℕ) → j < b.n → order (cut_problem b k) j ≡ min (order b j) k
   unfolding cut_problem
-  cut_order j hj = getD_table b.n (λ j. min (order b j) k) 0 j hj
+  cut_order j hj = get_or_table b.n (λ j. min (order b j) k) 0 j hj
 
   -- … and F's columns are "cut to match".
   cut_entry : (i j : ℕ) → i < b.m → j < b.n → at (cut_problem b k).F j i ≡ take (min (order b j) k) (at b.F j i)
   unfolding cut_problem
-  cut_entry i j hi hj = ap (λ column. get_or column i []) (getD_table b.n _ [] j hj) ∙ getD_table b.m _ [] i hi
+  cut_entry i j hi hj = ap (λ column. get_or column i []) (get_or_table b.n _ [] j hj) ∙ get_or_table b.m _ [] i hi
 
   -- Below the cut orders F is as before.
   pub cut_agrees : (i j l : ℕ) → i < b.m → j < b.n → l < min (order b j) k
@@ -100,7 +100,7 @@ module _ (b : Problem) (k : ℕ) where
     shifts_length = valid.shifts_length;
     shift_most = valid.shift_most;
     F_length = length_table b.n _;
-    F_column_length = λ j hj. ap length (getD_table b.n _ [] j hj) ∙ length_table b.m _;
+    F_column_length = λ j hj. ap length (get_or_table b.n _ [] j hj) ∙ length_table b.m _;
     F_entry_length = λ i j hi hj.
         ap length (cut_entry i j hi hj)
         ∙ length-take (min (order b j) k) (at b.F j i)

@@ -11,7 +11,7 @@ use Prim.Native.Nat.{ℕ, ◌+◌, ◌*◌, ◌%◌, ◌^◌, ◌≤◌, ◌<◌
 use Rattle.std.proofs.Math.Nat.{mul-le-mul, add-mul-mod_self_left, eq_of_mul-eq-mul_left}
 use native.Mathlib.Omega.{arith}
 use Rattle.std.proofs.Math.IntN.{nat_abs}
-use Rattle.algebra.specs.Integer.{Integers, natAbs_add, natAbs_neg}
+use Rattle.algebra.specs.Integer.{Integers, nat_abs_add, nat_abs_neg}
 use Rattle.algebra.specs.Sum.{sum}
 use Rattle.rules.specs.Sizes.{most_rows, most_order, most_shift, most_length}
 use Rattle.rules.specs.Reader.{Result, Refusal, refused, got}
@@ -29,7 +29,7 @@ use Rattle.rules.specs.Evidence.{make_evidence, evidence_size}
 use Rattle.laws.specs.EvidenceLaws.{evidence_cases}
 use Rattle.laws.specs.BoolLaws.{cond_cases}
 use Rattle.laws.specs.DegreeLaws.{shifted_is}
-use Rattle.laws.specs.Magnitudes.{natAbs_largest, natAbs_sum, natAbs_total}
+use Rattle.laws.specs.Magnitudes.{nat_abs_largest, nat_abs_sum, nat_abs_total}
 use Rattle.laws.specs.SearchLaws.{FirstPlace, first_place_some}
 use Rattle.laws.specs.Soundness.{longest_PE, longest_basis, longest_answer}
 use Rattle.laws.specs.Ranges.{claim_valid, read_basis_valid}
@@ -67,18 +67,18 @@ packed_injective v w hv hw e =
 
 -- SIZES OF INTEGERS
 
-natural_natAbs : (z : ℤ) → natural z ≤ nat_abs z
-natural_natAbs (pos d) = le_refl d
-natural_natAbs (negsuc d) = zero-le
+natural_nat_abs : (z : ℤ) → natural z ≤ nat_abs z
+natural_nat_abs (pos d) = le_refl d
+natural_nat_abs (negsuc d) = zero-le
 
 -- The degree sum of a valid claim is small.
 module _ (b : Problem) (P : List (List (List ℕ))) (valid : ValidProblem b) (basis : ValidBasis b P) where
   row_degree_most : (i : ℕ) (r : ℤ) → row_degree b P i ≡ some r → nat_abs r ≤ most_order + most_shift
   unfolding row_degree_of most_length most_order
   row_degree_most i =
-      natAbs_largest (most_order + most_shift) b.m (λ j. shifted_degree_of (length (at P i j)) (shift b j)) (λ j x hj e.
+      nat_abs_largest (most_order + most_shift) b.m (λ j. shifted_degree_of (length (at P i j)) (shift b j)) (λ j x hj e.
       let (d, l, is) = shifted_is (length (at P i j)) (shift b j) x e in
-      omega (arith, ap nat_abs is, natAbs_add (pos d) (shift b j), valid.shift_most j, basis.P_entry_length i j))
+      omega (arith, ap nat_abs is, nat_abs_add (pos d) (shift b j), valid.shift_most j, basis.P_entry_length i j))
 
   degree_sum_most : (z : ℤ) → degree_sum b P ≡ some z → natural z ≤ most_rows * (most_order + most_shift + most_shift)
   unfolding degree_sum_of most_rows
@@ -89,12 +89,12 @@ module _ (b : Problem) (P : List (List (List ℕ))) (valid : ValidProblem b) (ba
       by none t h = absurd (none-ne-some _ h)
       by (some r) t h = omega (
         arith,
-        natural_natAbs z,
+        natural_nat_abs z,
         ap nat_abs (some-injective _ _ h),
-        natAbs_add r (neg_ℤ (sum Integers b.m (shift b))),
-        natAbs_neg (sum Integers b.m (shift b)),
-        natAbs_total (most_order + most_shift) b.m (row_degree b P) (λ i x hi. row_degree_most i x) r t,
-        natAbs_sum most_shift b.m (shift b) (λ i hi. valid.shift_most i),
+        nat_abs_add r (neg_ℤ (sum Integers b.m (shift b))),
+        nat_abs_neg (sum Integers b.m (shift b)),
+        nat_abs_total (most_order + most_shift) b.m (row_degree b P) (λ i x hi. row_degree_most i x) r t,
+        nat_abs_sum most_shift b.m (shift b) (λ i hi. valid.shift_most i),
         mul-le-mul valid.rows_most (le_refl (most_order + most_shift)),
         mul-le-mul valid.rows_most (le_refl most_shift),
       )

@@ -6,7 +6,7 @@ use Rattle.std.specs.Prelude.{◌≡◌, refl, List, [], ◌∷◌, ◌++◌, �
 use Rattle.std.proofs.Common.{sym, ap, ap₂, ◌∙◌, arith}
 use Rattle.rules.specs.Sizes.{most_rows, most_order}
 use Rattle.rules.specs.Claim.{Problem, Answer, Claim}
-use Rattle.rules.specs.Table.{table, getD_table}
+use Rattle.rules.specs.Table.{table, get_or_table}
 use Rattle.rules.specs.Matrices.{order, shift, at}
 use Rattle.rules.specs.Reader.{Place, Result, refused, got, next, front}
 use Rattle.rules.specs.Files.{PR_mark, OR_mark, SH_mark, FC_mark, answer_reader, read_problem, read_claim, claim_for}
@@ -80,7 +80,7 @@ verdict_after_problem s t {b} e = ap by_reading (after_problem answer_reader cla
 
 -- Two tables that are equal agree at each place.
 same_at : {A : Type 0} (n : ℕ) (f g : ℕ → A) (d : A) → table n f ≡ table n g → (i : ℕ) → i < n → f i ≡ g i
-same_at n f g d e i h = sym (getD_table n f d i h) ∙ ap (λ l. get_or l i d) e ∙ getD_table n g d i h
+same_at n f g d e i h = sym (get_or_table n f d i h) ∙ ap (λ l. get_or l i d) e ∙ get_or_table n g d i h
 
 -- The form of a problem that equals one of such tables agrees with it at each place.
 module _ (b : Problem) (x : Prepared) (e : prepared b ≡ x) where

@@ -6,7 +6,7 @@ use Rattle.std.specs.Prelude.{◌≡◌, refl, Bool, true, false, cond, ◌≢�
 use Rattle.std.proofs.Common.{sym, ap, subst, ◌∙◌, lt_of_lt_of_le, arith, lt-ltb, le-ltb, ltb-true, ltb-false, length-set, get_or-set_same, get_or-set_other}
 use Rattle.std.proofs.Math.Path.{fun_ext}
 use Rattle.std.proofs.Math.Decide.{ℕ_discrete}
-use Rattle.rules.specs.Table.{table, length_table, getD_table, table_all, table_ext}
+use Rattle.rules.specs.Table.{table, length_table, get_or_table, table_all, table_ext}
 use Rattle.rules.specs.Sizes.{most_rows}
 use Rattle.layout.specs.Flat.{width}
 
@@ -60,7 +60,7 @@ module _ {A : Type 0} (d z : A) (n : ℕ) (g : ℕ → A) where
   filled_none l e =
       record {
         size = ap length e ∙ length_table n (λ i. z);
-        holds = λ i h. ap (λ l. get_or l i d) e ∙ getD_table n (λ i. z) d i h ∙ sym (up_to_above z 0 g i (omega arith));
+        holds = λ i h. ap (λ l. get_or l i d) e ∙ get_or_table n (λ i. z) d i h ∙ sym (up_to_above z 0 g i (omega arith));
       }
 
   -- … a store at k fills in one more …
@@ -103,8 +103,8 @@ pub array_of_at : (m n : ℕ) (g : ℕ → ℕ → ℕ) (i j : ℕ) → i < m �
 unfolding array_of row_of
 array_of_at m n g i j hi hj hm hn =
     ap (λ l. get_or l j 0)
-    (getD_table most_rows (up_to zero_row m (rows_of n g)) [] i (lt_of_lt_of_le hi hm) ∙ up_to_below zero_row m (rows_of n g) i hi)
-    ∙ getD_table width (up_to 0 n (g i)) 0 j (lt_of_lt_of_le hj hn)
+    (get_or_table most_rows (up_to zero_row m (rows_of n g)) [] i (lt_of_lt_of_le hi hm) ∙ up_to_below zero_row m (rows_of n g) i hi)
+    ∙ get_or_table width (up_to 0 n (g i)) 0 j (lt_of_lt_of_le hj hn)
     ∙ up_to_below 0 n (g i) j hj
 
 -- What every value has, and the default, is had by whatever is read.

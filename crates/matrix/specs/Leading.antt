@@ -36,10 +36,10 @@ unfolding exponent_of
 exponent_negative (pos k) t = absurd (let h : k < 0 = ltb-true k 0 t in omega arith)
 exponent_negative (negsuc k) t = refl
 
-pub exponent_natAbs : (z : ℤ) → lt_z z (pos 0) ≡ false → exponent_of z ≡ nat_abs z
+pub exponent_nat_abs : (z : ℤ) → lt_z z (pos 0) ≡ false → exponent_of z ≡ nat_abs z
 unfolding exponent_of
-exponent_natAbs (pos k) t = refl
-exponent_natAbs (negsuc k) t = absurd (subst T t tt)
+exponent_nat_abs (pos k) t = refl
+exponent_nat_abs (negsuc k) t = absurd (subst T t tt)
 
 -- It is below p where all are.
 pub at_power_below : (p : ℕ) (z : ℤ) (f : ℕ → ℕ) → 0 < p → ((k : ℕ) → f k < p) → at_power z f < p

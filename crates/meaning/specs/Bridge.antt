@@ -14,7 +14,7 @@ use Rattle.algebra.specs.Polynomial.{Poly}
 use Rattle.algebra.specs.Matrix.{vmul}
 use Rattle.algebra.specs.Degree.{coefficient, coefficient_sum}
 use Rattle.rules.specs.Matrices.{polynomial}
-use Rattle.rules.specs.Table.{table, length_table, getD_table}
+use Rattle.rules.specs.Table.{table, length_table, get_or_table}
 use Rattle.laws.specs.SumLaws.{red_sum}
 use Rattle.meaning.specs.Plain.{times, row_times_column}
 
@@ -50,7 +50,7 @@ module _ (p : ℕ) where
     | yes le ↦
         ap (red p) (get_or-eq_default (poly_list f) 0 (subst (λ n. n ≤ k) (sym (length_table f.bound (λ k. (f.series k).0))) le))
         ∙ sym (f.below k le)
-    | no gt ↦ ap (red p) (getD_table f.bound (λ k. (f.series k).0) 0 k (lt_of_not-le gt)) ∙ red_onto p (f.series k)
+    | no gt ↦ ap (red p) (get_or_table f.bound (λ k. (f.series k).0) 0 k (lt_of_not-le gt)) ∙ red_onto p (f.series k)
   ])
 
   -- The m polynomials of a row, each as a list.
@@ -59,4 +59,4 @@ module _ (p : ℕ) where
 
   -- They are the row's polynomials.
   pub polynomial_row_list : (m : ℕ) (v : ℕ → Poly (K p)) (i : ℕ) → i < m → (polynomial p (get_or (row_list m v) i [])).series ≡ (v i).series
-  polynomial_row_list m v i h = ap (λ l. (polynomial p l).series) (getD_table m (λ i. poly_list (v i)) [] i h) ∙ polynomial_poly_list (v i)
+  polynomial_row_list m v i h = ap (λ l. (polynomial p l).series) (get_or_table m (λ i. poly_list (v i)) [] i h) ∙ polynomial_poly_list (v i)

@@ -10,7 +10,7 @@ use Rattle.std.proofs.Math.ListN.{get_or-map}
 use Rattle.rules.specs.Sizes.{most_order}
 use Rattle.rules.specs.Writer.{write_problem, write_answer}
 use Rattle.rules.specs.Verdict.{four, numbers, verdict}
-use Rattle.rules.specs.Table.{table, getD_table}
+use Rattle.rules.specs.Table.{table, get_or_table}
 use Rattle.rules.specs.Evidence.{make_evidence}
 use Rattle.rules.specs.Part.{pointed_at, part_bytes}
 use Rattle.rules.specs.Run.{run_verdict, run_part, run_evidence}
@@ -66,7 +66,7 @@ pub every_code : (k : ℕ) → k < 14 → (numbers (verdict (stand_in k).0 (stan
 every_code k h =
     sym (get_or-map (λ q. (numbers (verdict q.0 q.1)).code) stand_ins k ([], []))
     ∙ ap (λ l. get_or l k (numbers (verdict [] [])).code) codes
-    ∙ getD_table 14 (λ k. k) (numbers (verdict [] [])).code k h
+    ∙ get_or_table 14 (λ k. k) (numbers (verdict [] [])).code k h
 
 -- A pair that passes with Δ = 2 …
 pub passes_with_two : numbers (verdict disk_problem disk_answer) ≡ four 0 0 0 2

@@ -11,7 +11,7 @@ use Rattle.std.proofs.Math.ListN.{get_or, get_or-eq_default}
 use Rattle.rules.specs.Sizes.{most_rows, most_order, most_shift}
 use Rattle.rules.specs.Claim.{Problem}
 use Rattle.rules.specs.Matrices.{order, shift, at}
-use Rattle.rules.specs.Table.{table, length_table, getD_table, table_cong}
+use Rattle.rules.specs.Table.{table, length_table, get_or_table, table_cong}
 use Rattle.rules.specs.Writer.{write_problem}
 use Rattle.rules.specs.Prepared.{Gives, Given}
 use Rattle.laws.specs.Valid.{ValidProblem}
@@ -47,13 +47,13 @@ module _ (head : Head) (f : List ℕ) (c : Canonical head f) where
 
   order_stands : (j : ℕ) → j < most_rows → order stood j ≡ get_or head.orders j 0
   unfolding orders_of
-  order_stands j hj = by_cases (dec_lt j head.n) (λ h. getD_table head.n (λ j. get_or head.orders j 0) 0 j h)
+  order_stands j hj = by_cases (dec_lt j head.n) (λ h. get_or_table head.n (λ j. get_or head.orders j 0) 0 j h)
       (λ h. get_or-eq_default (orders_of head.n head.orders) 0 (omega (arith, length_table head.n (λ j. get_or head.orders j 0)))
       ∙ sym (order_unused j hj (omega arith)))
 
   shift_stands : (i : ℕ) → i < most_rows → shift stood i ≡ shift_at head.shifts i
   unfolding shifts_of
-  shift_stands i hi = by_cases (dec_lt i head.m) (λ h. getD_table head.m (shift_at head.shifts) (pos 0) i h)
+  shift_stands i hi = by_cases (dec_lt i head.m) (λ h. get_or_table head.m (shift_at head.shifts) (pos 0) i h)
       (λ h. get_or-eq_default (shifts_of head.m head.shifts) (pos 0) (omega (arith, length_table head.m (shift_at head.shifts)))
       ∙ sym (shift_unused i hi (omega arith)))
 
@@ -62,10 +62,10 @@ module _ (head : Head) (f : List ℕ) (c : Canonical head f) where
 
   column_stands : (j : ℕ) → j < head.n → get_or (columns_of head f) j [] ≡ table head.m (entry j)
   unfolding columns_of
-  column_stands j hj = getD_table head.n (λ j. table head.m (entry j)) [] j hj
+  column_stands j hj = get_or_table head.n (λ j. table head.m (entry j)) [] j hj
 
   entry_stands : (i j : ℕ) → i < head.m → j < head.n → at (columns_of head f) j i ≡ entry j i
-  entry_stands i j hi hj = ap (λ (l : List (List ℕ)). get_or l i []) (column_stands j hj) ∙ getD_table head.m (entry j) [] i hi
+  entry_stands i j hi hj = ap (λ (l : List (List ℕ)). get_or l i []) (column_stands j hj) ∙ get_or_table head.m (entry j) [] i hi
 
   no_row : (i j : ℕ) → head.m ≤ i → j < head.n → at (columns_of head f) j i ≡ []
   no_row i j hi hj =
@@ -87,7 +87,7 @@ module _ (head : Head) (f : List ℕ) (c : Canonical head f) where
     where
       in_entry : j < head.n → i < head.m → get_or (at (columns_of head f) j i) k 0 ≡ get_or f (column_place i j k) 0
       in_entry h h' = ap (λ (l : List ℕ). get_or l k 0) (entry_stands i j h' h) ∙ by_cases (dec_lt k (get_or head.orders j 0))
-          (λ h''. getD_table (get_or head.orders j 0) (column_cell f i j) 0 k h'' ∙ column_cell_at f i j k hk)
+          (λ h''. get_or_table (get_or head.orders j 0) (column_cell f i j) 0 k h'' ∙ column_cell_at f i j k hk)
           (λ h''. get_or-eq_default (entry j i) 0 (omega (arith, length_table (get_or head.orders j 0) (column_cell f i j)))
           ∙ sym (cells.past_order i j k h' h (omega arith) hk))
 

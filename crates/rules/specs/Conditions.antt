@@ -39,14 +39,14 @@ unfoldable pub shifted_degree_of : ℕ → ℤ → Option ℤ
 shifted_degree_of length shift = elim (degree_of length) [ none ↦ none | some d ↦ some (pos d +ℤ shift) ]
 
 -- The larger of two.
-abbrev pub maxZ : ℤ → ℤ → ℤ
-maxZ a b = cond (le_z a b) b a
+abbrev pub max_z : ℤ → ℤ → ℤ
+max_z a b = cond (le_z a b) b a
 
 -- The larger of two that may be none: none "takes no part".
 abbrev pub larger : Option ℤ → Option ℤ → Option ℤ
 larger none y = y
 larger (some a) none = some a
-larger (some a) (some b) = some (maxZ a b)
+larger (some a) (some b) = some (max_z a b)
 
 -- The largest of f 0, …, f (n − 1), none where all are.
 unfoldable pub largest : ℕ → (ℕ → Option ℤ) → Option ℤ
