@@ -3,7 +3,7 @@
 --   Within n high low        the parts are no larger than those of n products
 --   Grown n high low d …     the parts after n more products, whose sum is d
 --   Summed n s high low      the parts of a sum s of at most n products
-use Rattle.std.specs.Prelude.{◌≡◌, List, ℕ, ◌+◌, ◌-◌, ◌*◌, ◌/◌, ◌%◌, ◌^◌, ◌≤◌, ◌<◌}
+use Rattle.std.specs.Prelude.{◌≡◌, List, ℕ, ◌+◌, ◌*◌, ◌/◌, ◌%◌, ◌^◌, ◌≤◌, ◌<◌}
 use Rattle.std.proofs.Common.{arith}
 use Rattle.algebra.specs.Residue.{red_eq}
 use Rattle.rules.specs.Sizes.{largest_prime}

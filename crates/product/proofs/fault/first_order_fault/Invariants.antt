@@ -1,0 +1,10 @@
+use Prim.Native.Nat.{ℕ, ◌-◌, ◌≤◌, ◌<◌}
+use Rattle.product.specs.Faults.{flat_order_fault}
+use Rattle.product.specs.Search.{Fails}
+use Rattle.product.proofs.fault.first_order_fault.Given as goal
+
+abbrev pub invariant-loop-i : goal.invariant-loop-i
+invariant-loop-i l = (l.i ≤ l.m) × ((r : ℕ) → r < l.i → Fails l.n (flat_order_fault l.head l.f l.entries l.c r))
+
+abbrev pub decreases-loop-i : goal.decreases-loop-i
+decreases-loop-i l = l.m - l.i
