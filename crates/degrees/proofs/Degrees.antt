@@ -1,22 +1,16 @@
 -- The shifts and the degrees of rows as the machine reads them back.
-use mathlib.Core.Path.{◌≡◌, ap}
-use native.Mathlib.Omega.{arith}
-use lib.IntN.{ℤ, nat_abs}
-use mathlib.Core.List.{List}
-use mathlib.Core.Option.{some}
-use Prim.Native.Nat.{ℕ, ◌+◌, ◌^◌, ◌<◌}
-use mir.Syntax.{w32}
-use mir.Val.{to_z, of_z}
+use Rattle.std.proofs.Common.{◌≡◌, List, ℕ, ℤ, ◌+◌, ◌^◌, ◌<◌, nat_abs, ap, arith, w32, to_z, of_z}
+use Rattle.std.proofs.Math.Option.{some}
+use Rattle.std.proofs.lemmas.Int.{ints, to_z-of_z}
 use Rattle.rules.specs.Conditions.{row_degree_of}
 use Rattle.rules.specs.Sizes.{most_length, most_shift}
 use Rattle.layout.specs.Flat.{length_at, shift_at}
 use Rattle.degrees.specs.Degrees.{Sized, row_degree_size}
-use Rattle.degrees.proofs.Signed.{back, small_fits}
 
 module _ (lengths : List ℕ) (shifts : List ℤ) (sized : Sized lengths shifts) where
   pub shift_back : (j : ℕ) → to_z w32 (of_z w32 (shift_at shifts j)) ≡ shift_at shifts j
   unfolding most_shift
-  shift_back j = back (small_fits (omega (arith, sized.shift_most j)))
+  shift_back j = to_z-of_z w32 (shift_at shifts j) (let h = sized.shift_most j in omega (arith, ints))
 
   -- A row degree and a shift are small enough to be subtracted.
   pub difference_small : (m i j : ℕ) (r : ℤ) → row_degree_of m (length_at lengths i) (shift_at shifts) ≡ some r

@@ -1,4 +1,3 @@
 -- Laws that several proofs cite, and that each contract leaves one result.
-pub mod Signed
 pub mod Degrees
 pub mod Unique

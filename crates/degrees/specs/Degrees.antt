@@ -3,8 +3,8 @@
 --   Sized lengths shifts     the sizes of document 01
 --   entry_term, excess       what a row's degree is the largest of, and what the degree sum is the sum of
 --   largest_from, total_from the largest and the sum from some place on, as a loop from the end finds them
-use Rattle.std.specs.Prelude.{◌≡◌, refl, List, ℕ, zero, suc, ◌+◌, ◌-◌, ◌*◌, ◌≤◌, ◌<◌, ℤ, pos, ◌+ℤ◌, ◌-ℤ◌}
-use Rattle.std.proofs.Common.{sym, ◌∙◌, le_trans, arith}
+use Rattle.std.specs.Prelude.{◌≡◌, refl, List, ℕ, zero, suc, ◌+◌, ◌-◌, ◌*◌, ◌≤◌, ◌<◌, ℤ, pos}
+use Rattle.std.proofs.Common.{sym, ◌∙◌, arith}
 use Rattle.std.proofs.Math.Path.{ap}
 use Rattle.std.proofs.Math.Option.{Option, none, some, some-injective, none-ne-some}
 use Rattle.std.proofs.Math.IntN.{nat_abs}
@@ -16,7 +16,7 @@ use Rattle.laws.specs.Magnitudes.{nat_abs_largest, nat_abs_total}
 use Rattle.layout.specs.Flat.{square_place, length_at, shift_at}
 use Rattle.layout.specs.Holds.{Short}
 use Rattle.degrees.specs.Signed.{nat_abs_minus}
-use Rattle.degrees.specs.From.{from, from_end, from_step, from_zero}
+use Rattle.degrees.specs.From.{from, from_end, from_step}
 
 -- The lengths of P's entries and the shifts are within document 01's sizes.
 pub record Sized (lengths : List ℕ) (shifts : List ℤ) : Type 0 where
