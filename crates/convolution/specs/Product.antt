@@ -72,7 +72,7 @@ triples_left : {μ : Modulus} → Made μ → (top : ℕ) (e l : List ℕ) (f g 
     ≡ (K μ.p).◌⊕◌ (red μ.p (get_or s i 0)) (convolve (K μ.p) f g i)
 unfolding with_triples with_triple shift
 triples_left {μ} made top e l f g he hl below zero s fits i =
-    ap (λ f'. (K μ.p).◌⊕◌ (red μ.p (get_or s i 0)) (convolve (K μ.p) f' g i)) (fun_ext (λ k. ap f (Nat.zero_add k)))
+    ap (λ f'. (K μ.p).◌⊕◌ (red μ.p (get_or s i 0)) (convolve (K μ.p) f' g i)) (fun_ext (λ k. ap f (Nat.zero-add k)))
 triples_left {μ} made top e l f g he hl below (suc j) s fits i =
     let s₁ : List ℕ = with_triples μ top e l j s in
     let s₂ : List ℕ = with_triples μ top e l (suc j) s in

@@ -26,7 +26,7 @@ module _ (R : CommRing) where
   infixl 60 ◌⊕◌
   infixl 70 ◌⊗◌
   shift_at : (d : ℕ) (g : ℕ → C) → shift R d g d ≡ g zero
-  shift_at d g = ap (shift R d g) (sym (Nat.add_zero d)) ∙ shift_above R d g zero
+  shift_at d g = ap (shift R d g) (sym (Nat.add-zero d)) ∙ shift_above R d g zero
 
   shift_other : (d : ℕ) (g : ℕ → C) (i : ℕ) → i ≢ d → shift R d g i ≡ shift R (suc d) (tail R g) i
   unfolding shift
@@ -50,7 +50,7 @@ module _ (R : CommRing) where
 
   shift_shift : (d e : ℕ) (g : ℕ → C) (i : ℕ) → shift R d (shift R e g) i ≡ shift R (d + e) g i
   unfolding shift
-  shift_shift zero e g i = ap (λ d. shift R d g i) (sym (Nat.zero_add e))
+  shift_shift zero e g i = ap (λ d. shift R d g i) (sym (Nat.zero-add e))
   shift_shift (suc d) e g zero = ap (λ d. shift R d g zero) (sym (Nat.suc-add d e))
   shift_shift (suc d) e g (suc i) = shift_shift d e g i ∙ ap (λ d. shift R d g (suc i)) (sym (Nat.suc-add d e))
 

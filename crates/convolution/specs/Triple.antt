@@ -77,7 +77,7 @@ module _ {μ : Modulus} (made : Made μ) (x y z : ℕ) (l : List ℕ) where
       ≡ (K p).◌⊕◌ (red p (get_or s i 0)) (shift (K p) at t i)
   unfolding with_turns
   turns_left at zero s fits i =
-      ap₂ (λ d g. (K p).◌⊕◌ (red p (get_or s i 0)) (shift (K p) d g i)) (Nat.add_zero at) (fun_ext (λ k. ap t (Nat.zero_add k)))
+      ap₂ (λ d g. (K p).◌⊕◌ (red p (get_or s i 0)) (shift (K p) d g i)) (Nat.add-zero at) (fun_ext (λ k. ap t (Nat.zero-add k)))
   turns_left at (suc k) s fits i =
       let s₁ : List ℕ = with_turns μ at x y z l k s in
       let s₂ : List ℕ = with_turns μ at x y z l (suc k) s in
@@ -86,7 +86,7 @@ module _ {μ : Modulus} (made : Made μ) (x y z : ℕ) (l : List ℕ) where
       ∙ one_added (K p) (λ i. red p (get_or s₁ i 0)) (λ i. red p (get_or s₂ i 0)) (from k t) (at + k)
       (ap (red p) (get_or-set_same s₁ (at + k) r 0 (omega (arith, length_turns μ at x y z l k s)))
       ∙ three_same k (get_or s₁ (at + k) 0)
-      ∙ ap (λ j. (K p).◌⊕◌ (red p (get_or s₁ (at + k) 0)) (t j)) (sym (Nat.add_zero k)))
+      ∙ ap (λ j. (K p).◌⊕◌ (red p (get_or s₁ (at + k) 0)) (t j)) (sym (Nat.add-zero k)))
       (λ j ne. ap (red p) (get_or-set_other s₁ (at + k) j r 0 ne))
       i
       ∙ turns_left at k s (omega arith) i

@@ -52,7 +52,7 @@ fn product(x: u32, y: u32) -> u64
 }
 
 // v: a sum. x, y and z: three coefficients in a row of one polynomial. g: another polynomial. k: a power.
-// The sum with the coefficient at k of (x + typeof.y.X + typeof.z.X²) · g added. A folded sum and three products always fit 64 bits.
+// The sum with the coefficient at k of (x + y·X + z·X²) · g added. A folded sum and three products always fit 64 bits.
 fn add_three(v: u64, x: u32, y: u32, z: u32, g: &[u32; CAPACITY], k: usize, modulus: Modulus) -> u64
     requires x_bound { (x < 2 ^ 31) × ((y < 2 ^ 31) × (z < 2 ^ 31)) }
     requires k_bound { (k + 2 < capacity) × Made modulus }

@@ -2,12 +2,8 @@ use mathlib.Core.Path.{refl}
 use Rattle.rules.specs.Sizes.{most_rows, most_length}
 use Rattle.polynomial.specs.Coefficients.{most_power}
 use Rattle.convolution.specs.Padded.{capacity}
-use Rattle.convolution.proofs.no_sums.Statement.{statement}
-use Rattle.convolution.proofs.no_sums.Tie as tie
+use Rattle.convolution.proofs.no_sums.Goals as goal
 
-returns : tie.Need-returns
+pub returns : goal.returns
 unfolding capacity most_power most_rows most_length
 returns c = refl
-
-pub no-sums-spec : {M : Type 1} → statement M
-no-sums-spec = tie.close (tie.spec returns)
