@@ -7,11 +7,11 @@
 --   record_refused, record_given, then_refused, then_given, refused_into      a record by its next field
 --   field_number             one field is of one record
 --   beside                   numbers stored beside their count
-use Rattle.std.specs.Prelude.{◌≡◌, List, ℕ, ◌≤◌, ◌<◌, length}
+use Rattle.std.specs.Prelude.{◌≡◌, List, ℕ, ◌<◌, length}
 use Rattle.std.proofs.Math.Path.{refl, ap}
 use Rattle.std.proofs.Common.{sym, ◌∙◌, arith}
 use Rattle.rules.specs.Reader.{Place, Refusal, Result, refused, got, Reader, next, field, mark, each}
-use Rattle.laws.specs.ReaderLaws.{opening, closed, field_got, Forward, Sound, sound_each}
+use Rattle.laws.specs.ReaderLaws.{closed, field_got, Forward, Sound, sound_each}
 use Rattle.place.specs.declared.Place.{Place as Spot}
 use Rattle.place.specs.declared.Stop.{Stop}
 use Rattle.place.specs.declared.Field.{Field}
