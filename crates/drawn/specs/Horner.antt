@@ -81,7 +81,7 @@ module _ (R : CommRing) where
         at l =
             ev_convolve (suc x) a (from (d - suc x) l) (g l)
             ∙ ap₂ (λ s t. s ⊕ a ⊗ ev R (suc x) a (convolve R t (g l)))
-            (ap (λ k. f l k ⊗ ev R (suc (suc x)) a (g l)) (Nat.add_zero (d - suc x)) ∙ mul_comm (f l (d - suc x)) (ev R (suc (suc x)) a (g l)))
+            (ap (λ k. f l k ⊗ ev R (suc (suc x)) a (g l)) (Nat.add-zero (d - suc x)) ∙ mul_comm (f l (d - suc x)) (ev R (suc (suc x)) a (g l)))
             (fun_ext (λ k. ap (f l) (omega arith)))
 
         together : (s t y : C) → s ⊕ t ⊕ ⊖ (a ⊗ y) ≡ t ⊕ ⊖ (a ⊗ y) ⊕ s
