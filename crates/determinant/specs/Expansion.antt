@@ -5,7 +5,7 @@
 use Rattle.std.specs.Prelude.{◌≡◌, List, length, get_or, replicate}
 use Rattle.std.proofs.Common.{sym, ◌∙◌, mod-lt, add-one, arith}
 use Rattle.std.proofs.Math.Path.{ap, ap₂, subst}
-use Prim.Native.Nat.{ℕ, zero, suc, pred, ◌+◌, ◌%◌, ◌≤◌, ◌<◌}
+use Prim.Native.Nat.{ℕ, zero, suc, pred, ◌+◌, ◌≤◌, ◌<◌}
 use Rattle.algebra.specs.Ring as Ring
 use Rattle.algebra.specs.Ring.{CommRing, sign}
 use Rattle.algebra.specs.Sum.{sum, sum_last, skip, skip_below}

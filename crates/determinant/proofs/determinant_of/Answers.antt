@@ -1,0 +1,44 @@
+use native.Mathlib.Omega.{arith}
+use mathlib.Core.Path.{subst}
+use lib.ListN.{get_or}
+use mathlib.Core.List.{List}
+use Prim.Native.Nat.{ℕ, ◌≤◌}
+use Rattle.algebra.specs.Residue.{K}
+use Rattle.algebra.specs.Series.{Series}
+use Rattle.algebra.specs.Det.{det}
+use Rattle.rules.specs.Sizes.{most_rows, most_length}
+use Rattle.layout.specs.Flat.{cells}
+use Rattle.polynomial.specs.Coefficients.{most_power}
+use Rattle.convolution.specs.Padded.{StandsFor}
+use Rattle.determinant.specs.Square.{Determinant}
+use Rattle.determinant.specs.Expansion.{InOrder, asked_whole, whole_square}
+use Rattle.convolution.specs.Unpadded.{work_zeros, unpadded_coefficients}
+use Rattle.determinant.proofs.determinant_of.Goals as goal
+
+pub row_tops-tops-requires : goal.row_tops-tops-requires
+row_tops-tops-requires c =
+    record { m_le_most_rows = c.requires.1.few_rows; each = λ i. omega (arith, c.requires.1.padded.length_most i) }
+
+pub determinant-l-requires : goal.determinant-l-requires
+determinant-l-requires c =
+    let columns = c.all_columns-columns in
+    asked_whole columns.result c.requires.0 c.requires.1 c.row_tops-tops.ensures columns.ensures
+
+-- The array stands for the determinant of the matrix.
+whole : (p m : ℕ) (entries tops columns l : List ℕ) → m ≤ most_rows → InOrder columns → Determinant p m 0 entries tops columns l
+    → StandsFor p (get_or tops 0 0) (det (Series (K p)) m (cells p entries)) l
+whole p m entries tops columns l few in_order stands =
+    subst (λ f. StandsFor p (get_or tops 0 0) f l) (whole_square p m entries columns few in_order) stands
+
+pub overflow_add-tops : goal.overflow_add-tops
+unfolding most_power most_rows most_length
+overflow_add-tops c = omega (arith, c.row_tops-tops.ensures.high 0)
+
+pub length_of-length-requires : goal.length_of-length-requires
+length_of-length-requires c = work_zeros (c.row_tops-tops.ensures.high 0) (whole c.args.modulus.p c.args.m c.args.entries.now c.row_tops-tops.result c.all_columns-columns.result c.determinant-l.result c.requires.1.few_rows c.all_columns-columns.ensures c.determinant-l.ensures)
+
+pub returns : goal.returns
+returns c =
+    unpadded_coefficients (c.row_tops-tops.ensures.high 0)
+    (whole c.args.modulus.p c.args.m c.args.entries.now c.row_tops-tops.result c.all_columns-columns.result c.determinant-l.result c.requires.1.few_rows c.all_columns-columns.ensures c.determinant-l.ensures) c.length_of-length.ensures
+    c.unpadded.ensures
