@@ -1,6 +1,6 @@
 // Document 02, L5, "Judging by a drawn point": whether a claim's product may pass, by a drawn row u and a drawn point. Source document 000,
-// section 3. No product is formed: typeof.u.P comes first, a row of m polynomials, and the values of its entries at the point up to each power. With
-// these, Horner's rule gives the value of each column of typeof.u.P.F that is cut at the order, from the highest power down.
+// section 3. No product is formed: u·P comes first, a row of m polynomials, and the values of its entries at the point up to each power. With
+// these, Horner's rule gives the value of each column of u·P·F that is cut at the order, from the highest power down.
 #![tactic(auto)]
 
 ghost use Rattle.std.specs.Prelude.{◌≡◌, max, ◌+◌, ◌-◌, ◌*◌, ◌%◌, ◌<◌, ◌≤◌, get_or, length};
@@ -83,7 +83,7 @@ fn no_values() -> Values
 }
 
 // u: its first m numbers are below p. entries: of P. count: how many powers are asked for.
-// The values at the point of the entries of typeof.u.P, up to each of the first `count` powers: for each power a row of m.
+// The values at the point of the entries of u·P, up to each of the first `count` powers: for each power a row of m.
 fn values(
     entries: &[u32; ENTRY_COEFFICIENTS],
     u: &[u32; ROWS],
@@ -143,7 +143,7 @@ fn next_value(
     plus_row(start, row, m, f, at, ORDER, p)
 }
 
-// head, f, entries, c: of a claim. u, point: the numbers drawn. table: the values of typeof.u.P up to each power. j: a column.
+// head, f, entries, c: of a claim. u, point: the numbers drawn. table: the values of u·P up to each power. j: a column.
 // The value at the point of the column of the combined rows, cut at its order, less C's there.
 fn column_value<'a>(
     head: Head,

@@ -16,7 +16,7 @@ use Rattle.writer.specs.Appended.{Appended, appended_nothing, appended_both}
 use Rattle.laws.specs.ByteNumbers.{length_bytes}
 
 module _ (b : Problem) (P : List (List (List ℕ))) where
-  -- The number of row i and column j: the coefficient of P-as-F at the order.
+  -- The number of row i and column j: the coefficient of P·F at the order.
   abbrev pub number : ℕ → ℕ → ℕ
   number i j = (product b P i j (order b j)).0
 

@@ -1,4 +1,4 @@
--- Condition 3 over the flat arrays: where P-as-F has a fault. Each test is that of the rules, with the coefficients of the flat arrays.
+-- Condition 3 over the flat arrays: where P·F has a fault. Each test is that of the rules, with the coefficients of the flat arrays.
 --   flat_low_fault           some coefficient below the order is not 0
 --   flat_order_fault         the coefficient at the order differs from C
 --   place_of                 the answer of a search, as the code gives it

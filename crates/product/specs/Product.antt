@@ -1,5 +1,5 @@
--- Condition 3 over the flat arrays: the coefficients of P-as-F, as sums of products of numbers.
---   flat_product             the coefficients of P-as-F modulo p
+-- Condition 3 over the flat arrays: the coefficients of P·F, as sums of products of numbers.
+--   flat_product             the coefficients of P·F modulo p
 --   product_number           the sum of products whose residue such a coefficient is
 --   dot entries f x y n      Σ_{s<n} entries[x + s] · f[y − s]
 --   Factors p entries lengths f    what the modulus and the two factors are
@@ -18,7 +18,7 @@ use Rattle.layout.specs.Flat.{entry_place, column_place, square_place, length_at
 use Rattle.layout.specs.Holds.{Each, Padded}
 use Rattle.laws.specs.SumLaws.{sum_below_cong, sum_below_last, sum_window, red_sum}
 
--- The coefficient at power k of the entry of P-as-F in row i and column j, modulo p.
+-- The coefficient at power k of the entry of P·F in row i and column j, modulo p.
 unfoldable pub flat_product : (p : ℕ) → List ℕ → List ℕ → ℕ → ℕ → ℕ → ℕ → Residue p
 flat_product p entries f m i j k = mmul (Series (K p)) m (cells p entries) (column_cells p f) i j k
 

@@ -1,4 +1,4 @@
-// Document 01, condition 3: the coefficients of P.F modulo p.
+// Document 01, condition 3: the coefficients of P·F modulo p.
 ghost use Rattle.std.specs.Prelude.{◌≡◌, ◌+◌, ◌*◌, ◌-◌, ◌%◌, ◌^◌, ◌<◌, ◌≤◌};
 ghost use Rattle.rules.specs.Sizes.{most_rows, most_order, most_length};
 ghost use Rattle.field.specs.Modulus.{cut, modulus_of, Made};
@@ -105,7 +105,7 @@ fn add_entry<'a>(
 }
 
 // head, f, lengths, entries: of a claim. i, j: a row and a column. k: a power, at most the largest order.
-// The sum of the products that make the coefficient of P.F there at that power.
+// The sum of the products that make the coefficient of P·F there at that power.
 fn entry_total<'a>(
     head: Head,
     f: &'a [u32; COLUMN_COEFFICIENTS],
@@ -142,7 +142,7 @@ fn residue(total: Total, modulus: Modulus) -> u32
 }
 
 // head, modulus, f, lengths, entries: of a claim. i, j: a row and a column. k: a power, at most the largest order.
-// The coefficient of P.F there at that power, modulo p.
+// The coefficient of P·F there at that power, modulo p.
 pub(crate) fn coefficient<'a>(
     head: Head,
     modulus: Modulus,

@@ -1,4 +1,4 @@
-// Document 01, condition 3: the first place, row by row and in it column by column, where P.F has a coefficient below the order that
+// Document 01, condition 3: the first place, row by row and in it column by column, where P·F has a coefficient below the order that
 // is not 0, or one at the order that differs from C.
 ghost use Rattle.std.specs.Prelude.{◌≡◌, ◌<◌, ◌≤◌, get_or};
 ghost use Rattle.rules.specs.Conditions.{first_place};
@@ -22,7 +22,7 @@ pub enum FirstFault {
 }
 
 // head, modulus, f, lengths, entries: of a claim. i, j: a row and a column.
-// Whether some coefficient of P.F there below the column's order is not 0.
+// Whether some coefficient of P·F there below the column's order is not 0.
 fn low_fault<'a>(
     head: Head,
     modulus: Modulus,
@@ -49,7 +49,7 @@ fn low_fault<'a>(
 }
 
 // head, modulus, f, lengths, entries: of a claim. i, j: a row and a column.
-// The coefficient of P.F there at the column's order, modulo p: the number of C that is due, and that of the evidence.
+// The coefficient of P·F there at the column's order, modulo p: the number of C that is due, and that of the evidence.
 pub fn order_coefficient<'a>(
     head: Head,
     modulus: Modulus,
@@ -68,7 +68,7 @@ pub fn order_coefficient<'a>(
 }
 
 // head, modulus, f, lengths, entries, c: of a claim. i, j: a row and a column.
-// Whether the coefficient of P.F there at the column's order differs from C's number.
+// Whether the coefficient of P·F there at the column's order differs from C's number.
 fn order_fault<'a>(
     head: Head,
     modulus: Modulus,

@@ -1,4 +1,4 @@
-// Document 01, condition 3: the coefficients of P.F, and the first fault among them.
+// Document 01, condition 3: the coefficients of P·F, and the first fault among them.
 #![tactic(auto)]
 
 pub mod coefficient;
