@@ -1,11 +1,11 @@
 -- The rows are taken one after the other: what is left to take gives the whole choice.
 --   Folds                    the arrays reflect a choice, from which the rows left give the whole one
 --   folds_start, folds_taken, folds_none, folds_end        before any row, after one was taken, where none waits, after all
-use Rattle.std.specs.Prelude.{◌≡◌, Bool, true, false, not, List, eqb, ltb, ℤ, get_or, set}
+use Rattle.std.specs.Prelude.{◌≡◌, Bool, true, false, not, List, eqb, ℤ, set}
 use Rattle.std.proofs.Math.Path.{refl, sym, ap}
 use Rattle.std.proofs.Common.{◌∙◌, lt-ltb, le-ltb}
 use Rattle.std.proofs.Math.Bool.{cond}
-use Rattle.std.proofs.Math.Option.{Option, none, some}
+use Rattle.std.proofs.Math.Option.{none, some}
 use Prim.Native.Nat.{ℕ, zero, suc, ◌≤◌, ◌<◌}
 use Rattle.algebra.specs.Residue.{K}
 use Rattle.algebra.specs.Matrix.{Matrix}

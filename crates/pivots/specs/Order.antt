@@ -2,7 +2,7 @@
 --   degree_at, is_taken, Small, row_found    what the arrays and the answer say
 --   better, better_taken, better_first, better_lower       the test of one row
 --   Best, best_start, best_more, best_kept, best_next        the lowest of the first rows that were not taken
-use Rattle.std.specs.Prelude.{◌≡◌, ◌≢◌, ◌⊎◌, Bool, not, List, ℕ, ◌+◌, ◌^◌, ◌≤◌, ◌<◌, T, eqb, ltb, ℤ, pos, nat_abs, get_or}
+use Rattle.std.specs.Prelude.{◌≡◌, ◌≢◌, ◌⊎◌, Bool, not, List, ℕ, ◌+◌, ◌^◌, ◌<◌, T, eqb, ltb, ℤ, pos, nat_abs, get_or}
 use Rattle.std.proofs.Math.Path.{refl, sym, ap}
 use Rattle.std.proofs.Common.{subst, ◌∙◌, true≢false, arith, lt-ltb, le-ltb, eq-eqb, ne_eqb}
 use Rattle.std.proofs.Math.Logic.{inl, inr}
@@ -12,7 +12,6 @@ use Rattle.std.proofs.Math.Option.{Option, none, some}
 use borrow.Author.Count.{below_more}
 use Rattle.std.specs.Int.Signed.{le_z, lt_z, ≤ℤ_refl, le_z_yes, lt_z_yes, lt_z_no, clash_ℤ}
 use Rattle.algebra.specs.Integer.{more_trans}
-use Rattle.rules.specs.Conditions.{some_below, first_below}
 use Rattle.rules.specs.Maker.{lower_left, next_row}
 use Rattle.laws.specs.BoolLaws.{true_iff, false_iff, not_false_iff}
 use Rattle.laws.specs.SearchLaws.{some_below_iff, some_below_false_iff, first_below_some, first_below_none}

@@ -7,17 +7,15 @@
 --   reduced_cleared, reduced_pivot       the state after a row was taken
 use Rattle.std.specs.Prelude.{◌≡◌, refl, ◌≢◌, Bool, true, false, [], ◌∷◌, ℕ, ◌≤◌, ◌<◌}
 use Rattle.std.proofs.Math.Path.{sym}
-use Rattle.std.proofs.Common.{ap, ap₂, subst, ◌∙◌, inl, inr, true≢false, lt_of_lt_of_le}
+use Rattle.std.proofs.Common.{ap, ap₂, subst, ◌∙◌, true≢false, lt_of_lt_of_le}
 use Rattle.std.proofs.lemmas.Bool.{false≢true}
 use Rattle.std.proofs.Math.Decide.{ℕ_discrete}
 use Rattle.algebra.specs.Ring as Ring
 use Rattle.algebra.specs.Solver.{v0, v1, v2, ◌⊞◌, ◌⊠◌, ⊟◌, ring}
-use Rattle.algebra.specs.Prime.{Prime}
-use Rattle.algebra.specs.Residue.{K, K_cancels}
+use Rattle.algebra.specs.Residue.{K}
 use Rattle.algebra.specs.Sum.{replace, replace_at, replace_other}
 use Rattle.algebra.specs.Matrix.{Row, Matrix, unit, unit_diagonal, unit_off, vmul, vmul_cong, vmul_add, vmul_scale, vmul_zero, unit_vmul}
 use Rattle.algebra.specs.Clearing.{vmul_neg, less}
-use Rattle.rules.specs.Maker.{Chosen, none_taken}
 use Rattle.laws.specs.FindLaws.{IsCombination}
 
 -- Every column counts.
@@ -82,7 +80,7 @@ module _ (p : ℕ) (m n : ℕ) (A : Matrix (K p)) where
       λ q hq e. elim (ℕ_discrete q i) [
         | yes z ↦
             ap (λ q. unit (K p) i q ⊕ ⊖ T i q) z
-            ∙ ap₂ (λ x y. x ⊕ ⊖ y) (unit_diagonal (K p) i) row.own_val
+            ∙ ap₂ (λ x y. x ⊕ ⊖ y) (unit_diagonal (K p) i) row.own
             ∙ add_neg 𝟙
         | no ne ↦
             ap₂ (λ x y. x ⊕ ⊖ y) (unit_off (K p) i q (λ z. ne (sym z))) (row.alone q (lt_of_lt_of_le hq room) e ne)
@@ -123,7 +121,7 @@ module _ (p : ℕ) (m n : ℕ) (A : Matrix (K p)) where
         pivots_alone q hq e = elim (ℕ_discrete q i) [
           | yes z ↦
               ap difference z
-              ∙ ap₂ (λ x y. x ⊕ ⊖ (y ⊕ ⊖ u i)) row.own_val (unit_diagonal (K p) i)
+              ∙ ap₂ (λ x y. x ⊕ ⊖ (y ⊕ ⊖ u i)) row.own (unit_diagonal (K p) i)
               ∙ ap (λ x. 𝟙 ⊕ ⊖ (𝟙 ⊕ ⊖ x)) (others i hi (no_pivot i waits))
               ∙ ring (K p) (𝟙 ∷ 𝟘 ∷ []) (v0 ⊞ ⊟ (v0 ⊞ ⊟ v1)) v1 refl
           | no ne ↦
@@ -230,7 +228,7 @@ module _ (p : ℕ) (m n : ℕ) (A : Matrix (K p)) where
 
           alone : (q : ℕ) → q < m → pivot q ≡ false → rest q ≡ 𝟘
           alone q hq e = elim (ℕ_discrete q i) [
-            | yes z ↦ ap rest z ∙ ap (λ x. u i ⊕ ⊖ (u i ⊗ x)) row.own_val ∙ ap (λ x. u i ⊕ ⊖ x) (mul_one (u i)) ∙ add_neg (u i)
+            | yes z ↦ ap rest z ∙ ap (λ x. u i ⊕ ⊖ (u i ⊗ x)) row.own ∙ ap (λ x. u i ⊕ ⊖ x) (mul_one (u i)) ∙ add_neg (u i)
             | no ne ↦
                 ap₂ (λ x y. x ⊕ ⊖ (u i ⊗ y)) (others q hq (replace_other i true pivot q ne ∙ e)) (row.alone q (lt_of_lt_of_le hq room) e ne)
                 ∙ ap (λ y. 𝟘 ⊕ ⊖ y) (Ring.mul_zero (K p) (u i))

@@ -3,11 +3,11 @@
 --   copied_start, copied_more, less_start, less_more         a row, column by column
 --   both_less                one row of both squares
 --   cleared_start, cleared_more, cleared_passed              all rows that wait
-use Rattle.std.specs.Prelude.{◌≡◌, refl, ◌≢◌, List, ℕ, ◌+◌, ◌-◌, ◌*◌, ◌%◌, ◌≤◌, ◌<◌, length, get_or, set}
+use Rattle.std.specs.Prelude.{◌≡◌, refl, ◌≢◌, List, ℕ, ◌+◌, ◌-◌, ◌*◌, ◌%◌, ◌<◌, length, get_or, set}
 use Rattle.std.proofs.Common.{sym, ap, ap₂, subst, ◌∙◌, le_of_lt, arith, below_more, length-set}
 use Rattle.algebra.specs.Residue.{K, red}
 use Rattle.rules.specs.Sizes.{most_rows}
-use Rattle.layout.specs.Flat.{square, square_place}
+use Rattle.layout.specs.Flat.{square_place}
 use Rattle.layout.specs.Holds.{Each}
 use Rattle.field.specs.Laws.{remainder_below, red_of_sub, red_of_mul}
 use Rattle.pivots.specs.Rows.{Full, number_at, square_of, place_inside, number_set, number_stays, each_set, Identity, Copied, RowLess, BothLess, Cleared}

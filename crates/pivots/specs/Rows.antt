@@ -5,8 +5,8 @@
 --   Identity n l             the first n rows of the identity
 --   FirstColumn l i r        the first column in which row i is not 0
 --   Copied, RowLess, BothLess, Cleared       a row that was copied; a multiple of a row taken from one row, in two squares, from each that waits
-use Rattle.std.specs.Prelude.{◌≡◌, refl, ◌≢◌, List, ℕ, ◌+◌, ◌-◌, ◌*◌, ◌/◌, ◌%◌, ◌≤◌, ◌<◌, length, get_or, set}
-use Rattle.std.proofs.Common.{sym, ap, ap₂, subst, ◌∙◌, le_of_lt, mod-eq_of_lt, arith, below_more, get_or-set_same, get_or-set_other, ext_get_or}
+use Rattle.std.specs.Prelude.{◌≡◌, refl, ◌≢◌, List, ℕ, ◌/◌, ◌%◌, ◌≤◌, ◌<◌, length, get_or, set}
+use Rattle.std.proofs.Common.{sym, ap, subst, ◌∙◌, mod-eq_of_lt, arith, get_or-set_same, get_or-set_other, ext_get_or}
 use Rattle.std.proofs.Math.Logic.{by_cases}
 use Rattle.std.proofs.Math.Decide.{ℕ_discrete}
 use Rattle.algebra.specs.Residue.{K, red, red_eq}
@@ -15,7 +15,6 @@ use Rattle.rules.specs.Sizes.{most_rows}
 use Rattle.rules.specs.Table.{table, table_all}
 use Rattle.layout.specs.Flat.{square, square_place}
 use Rattle.layout.specs.Holds.{Each}
-use Rattle.field.specs.Laws.{remainder_below, red_of_sub, red_of_mul}
 
 -- The number of row i and column j.
 abbrev pub number_at : List ℕ → ℕ → ℕ → ℕ

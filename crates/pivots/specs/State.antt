@@ -6,7 +6,7 @@
 --   reflects_start, reflects_combined, reflects_pivot      before any row is taken, and after one was
 use Rattle.std.specs.Prelude.{◌≡◌, ◌≢◌, Bool, true, false, List, ℕ, ◌≤◌, ◌<◌, length, get_or, set}
 use Rattle.std.proofs.Math.Path.{refl, sym, ap}
-use Rattle.std.proofs.Common.{ap₂, subst, ◌∙◌, true≢false, le_of_lt, lt_of_lt_of_le, mod-eq_of_lt, arith, length-set, get_or-set_same, get_or-set_other}
+use Rattle.std.proofs.Common.{ap₂, subst, ◌∙◌, le_of_lt, lt_of_lt_of_le, mod-eq_of_lt, arith, length-set, get_or-set_same, get_or-set_other}
 use Rattle.std.proofs.Math.Option.{Option, none, some}
 use Rattle.std.proofs.Math.Decide.{ℕ_discrete, dec_lt}
 use Rattle.algebra.specs.Ring as Ring
@@ -23,7 +23,7 @@ use Rattle.laws.specs.BoolLaws.{false_iff}
 use Rattle.laws.specs.FindLaws.{IsCombination, find_constants_found, find_constants_none, find_constants_past, depends_iff, depends_local}
 use Rattle.layout.specs.Holds.{Each}
 use Rattle.field.specs.Laws.{red_of_inverse}
-use Rattle.pivots.specs.Rows.{Full, number_at, square_of, Identity, FirstColumn, Copied, Cleared}
+use Rattle.pivots.specs.Rows.{Full, number_at, square_of, Identity, Copied, Cleared}
 use Rattle.pivots.specs.Reduced.{all, Reduced, reduced_start, reduced_cleared, reduced_pivot, combination_found, combination_is}
 
 -- The arrays have the sizes of their types, and numbers below p.
