@@ -2,7 +2,7 @@
 #![tactic(auto)]
 
 ghost use Rattle.std.specs.Prelude.{◌≡◌, ◌<◌};
-ghost use Rattle.rules.specs.Files.{PR};
+ghost use Rattle.rules.specs.Files;
 ghost use Rattle.place.specs.Places.{place};
 ghost use Rattle.problem_head.specs.Head.{headed, sizes_reader};
 
@@ -54,7 +54,7 @@ fn head_sizes(s: &[u8], q: Place, p: u32) -> Headed
 // The record's numbers and the place after it, or the refusal.
 pub fn read_head(s: &[u8], q: Place) -> Headed
     requires { q.number < 65535 }
-    ensures { headed result ≡ PR s.now (place q) }
+    ensures { headed result ≡ Files.PR s.now (place q) }
 {
     match read_mark(s, opened(q), PR) {
         Field::Off(x) => Headed::Off(x),
