@@ -1,17 +1,15 @@
 -- The contract of `step_rows` leaves one array at the end.
-use mathlib.Core.Path.{◌≡◌, refl, sym, ap, ◌∙◌}
+use mathlib.Core.Path.{◌≡◌, refl, sym, ◌∙◌}
 use mathlib.Core.Logic.{by_cases}
 use mathlib.Core.List.{List}
-use Prim.Native.Nat.{ℕ, ◌≤◌, ◌<◌}
+use Prim.Native.Nat.{ℕ}
 use native.Mathlib.Decide.{ℕ_discrete, dec_lt}
 use native.Mathlib.Omega.{arith}
 use lib.ListN.{get_or}
 use Rattle.unique.specs.OneResult.{OneResult}
-use Rattle.rules.specs.Sizes.{most_rows, most_length}
-use Rattle.layout.specs.Flat.{entry_place}
 use Rattle.pivots.specs.Rows.{number_of_residue}
 use Rattle.stepping.specs.Next.{Next}
-use Rattle.stepping.specs.Filled.{Box, RowsBox, Filled, entries_ext}
+use Rattle.stepping.specs.Filled.{RowsBox, Filled, entries_ext}
 use Rattle.stepping.proofs.step_rows.Kinds as step_rows_kinds
 use Rattle.stepping.proofs.step_rows.Reads as step_rows
 

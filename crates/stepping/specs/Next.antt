@@ -2,12 +2,12 @@
 --   Rows                     what is asked of the coefficients and the factors
 --   term, Combined           a combination of rows, and what its sum of products stands for
 --   moved, Next              a coefficient of a row that moves, and of any row
-use Rattle.std.specs.Prelude.{◌≡◌, refl, ◌≢◌, List, cond, ℕ, suc, ◌+◌, ◌-◌, ◌*◌, ◌%◌, ◌^◌, ◌≤◌, ◌<◌, eqb, get_or}
-use Rattle.std.proofs.Common.{sym, ap, ◌∙◌, mul-le-mul, mod-lt, arith}
+use Rattle.std.specs.Prelude.{◌≡◌, ◌≢◌, List, cond, ℕ, ◌-◌, ◌*◌, ◌%◌, ◌≤◌, ◌<◌, eqb, get_or}
+use Rattle.std.proofs.Common.{ap, ◌∙◌, mul-le-mul, mod-lt, arith}
 use Rattle.algebra.specs.Residue.{K, red, red_mod, red_mul}
 use Rattle.algebra.specs.Sum.{sum_cong}
 use Rattle.algebra.specs.Matrix.{vmul}
-use Rattle.rules.specs.Sizes.{largest_prime, most_rows}
+use Rattle.rules.specs.Sizes.{largest_prime}
 use Rattle.rules.specs.Conditions.{sum_below}
 use Rattle.laws.specs.SumLaws.{red_sum}
 use Rattle.layout.specs.Flat.{square_place, entry_place}
