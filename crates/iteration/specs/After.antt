@@ -15,7 +15,7 @@ use Rattle.algebra.specs.Residue.{K, red, red_zero}
 use Rattle.algebra.specs.Integer.{nat_abs_add}
 use Rattle.algebra.specs.Clearing.{Clears}
 use Rattle.algebra.specs.PolyMatrix.{entries as series_entries}
-use Rattle.algebra.specs.Step.{once, next}
+use Rattle.algebra.specs.Step.{once}
 use Rattle.rules.specs.Sizes.{most_rows, most_order, most_shift, most_length}
 use Rattle.rules.specs.Claim.{Problem}
 use Rattle.rules.specs.Matrices.{order, at, matrix_P, product}
@@ -30,7 +30,7 @@ use Rattle.pivots.specs.Reduced.{all}
 use Rattle.pivots.specs.Rows.{Full, number_at, square_of, number_of_residue}
 use Rattle.pivots.specs.State.{Chose}
 use Rattle.stepping.specs.Next.{coefficient_at, Next}
-use Rattle.stepping.specs.Filled.{Box, Kept, Filled, RowsBox}
+use Rattle.stepping.specs.Filled.{Kept, Filled, RowsBox}
 use Rattle.iteration.specs.NextRows.{next_coefficient}
 
 pub record After (b : Problem) (k : ℕ) (entries products : List ℕ) (degrees : List ℤ) : Type 0 where

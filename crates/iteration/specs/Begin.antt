@@ -2,16 +2,16 @@
 --   Unit, unit_start, unit_more        the coefficients of the identity
 --   start_number, Copied, copying_start, copying_more, copied_all      those of F, laid out as those of P
 --   after_start              the arrays before any step
-use Rattle.std.specs.Prelude.{◌≡◌, refl, ◌≢◌, ◌⊎◌, Bool, true, false, List, [], ◌∷◌, ltb, eqb, ℤ, pos, nat_abs, length, get_or, set}
+use Rattle.std.specs.Prelude.{◌≡◌, refl, ◌≢◌, Bool, true, false, List, [], ◌∷◌, ltb, eqb, ℤ, nat_abs, length, get_or, set}
 use Rattle.std.proofs.Math.Path.{sym, ap, ap₂}
 use Rattle.std.proofs.Common.{subst, ◌∙◌, inl, inr, le_of_lt, lt_of_lt_of_le, arith, below_more, lt-ltb, eq-eqb, ne_eqb, length-set, get_or-set_same, get_or-set_other}
 use Rattle.std.proofs.Math.Logic.{by_cases}
 use Rattle.std.proofs.Math.Bool.{cond}
-use Prim.Native.Nat.{ℕ, zero, suc, ◌+◌, ◌*◌, ◌/◌, ◌%◌, ◌≤◌, ◌<◌, zero-le}
+use Prim.Native.Nat.{ℕ, zero, suc, ◌+◌, ◌/◌, ◌%◌, ◌≤◌, ◌<◌, zero-le}
 use Rattle.std.proofs.Math.Decide.{ℕ_discrete, dec_lt}
 use Rattle.algebra.specs.Residue.{K, red}
-use Rattle.algebra.specs.Series.{Series, series_ext}
-use Rattle.algebra.specs.Matrix.{unit, vmul, mmul, vmul_cong, unit_vmul}
+use Rattle.algebra.specs.Series.{Series}
+use Rattle.algebra.specs.Matrix.{unit, mmul, vmul_cong, unit_vmul}
 use Rattle.algebra.specs.PolyMatrix.{entries as series_entries}
 use Rattle.rules.specs.Sizes.{most_rows, most_order, most_shift, most_length}
 use Rattle.rules.specs.Claim.{Problem}
@@ -30,7 +30,7 @@ use Rattle.claim.specs.Holds.{holds_shifts, holds_columns}
 use Rattle.pivots.specs.Order.{degree_at}
 use Rattle.pivots.specs.Rows.{each_set}
 use Rattle.stepping.specs.Next.{coefficient_at}
-use Rattle.stepping.specs.Filled.{Kept, places_differ, place_inside}
+use Rattle.stepping.specs.Filled.{places_differ, place_inside}
 use Rattle.iteration.specs.After.{After, after_outside}
 
 -- The identity with n rows, and zeros.

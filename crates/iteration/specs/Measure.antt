@@ -2,8 +2,8 @@
 --   Measured                 the length of one entry: a number other than 0 stands before it, and zeros from there on
 --   Lengths, lengths_start, lengths_more, lengths_all        all of them
 --   measured_length          it is that of the list with those coefficients
-use Rattle.std.specs.Prelude.{◌≡◌, refl, ◌≢◌, List, ℕ, pred, suc, ◌+◌, ◌-◌, ◌/◌, ◌%◌, ◌≤◌, ◌<◌, length, get_or, set}
-use Rattle.std.proofs.Common.{sym, ap, ap₂, subst, ◌∙◌, below_more, length-set, get_or-set_same, get_or-set_other}
+use Rattle.std.specs.Prelude.{◌≡◌, ◌≢◌, List, ℕ, pred, ◌+◌, ◌-◌, ◌/◌, ◌%◌, ◌≤◌, ◌<◌, length, get_or, set}
+use Rattle.std.proofs.Common.{sym, subst, ◌∙◌, below_more, length-set, get_or-set_same, get_or-set_other}
 use Rattle.std.proofs.Math.Logic.{by_cases}
 use Rattle.std.proofs.Math.Decide.{dec_lt}
 use native.Mathlib.Omega.{arith}

@@ -1,8 +1,8 @@
 -- The coefficients that the code makes of rows are those of the next matrix of the basis iteration.
 --   next_coefficient         by what was chosen
-use Rattle.std.specs.Prelude.{◌≡◌, Bool, true, cond, List, ℕ, zero, suc, ◌-◌, ◌≤◌, ◌<◌, eqb}
+use Rattle.std.specs.Prelude.{◌≡◌, Bool, true, cond, List, ℕ, zero, suc, ◌-◌, ◌≤◌, ◌<◌}
 use Rattle.std.proofs.Math.Path.{refl, ap, ap₂}
-use Rattle.std.proofs.Common.{sym, subst, ◌∙◌, lt_of_lt_of_le, arith, eq-eqb, ne_eqb}
+use Rattle.std.proofs.Common.{sym, ◌∙◌, lt_of_lt_of_le, arith, ne_eqb}
 use Rattle.std.proofs.Math.Bool.{false}
 use Rattle.std.proofs.Math.ListN.{get_or}
 use Rattle.algebra.specs.Ring as Ring
