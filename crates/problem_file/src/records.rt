@@ -2,7 +2,8 @@
 ghost use Rattle.std.specs.Prelude.{◌≡◌, ℕ, ◌+◌, ◌≤◌, ◌<◌, length, get_or};
 ghost use Rattle.rules.specs.Sizes.{most_rows, most_order};
 ghost use Rattle.rules.specs.Reader.{each, field, unless};
-ghost use Rattle.rules.specs.Files.{OR, SH, FC, one_to, shift_reader};
+ghost use Rattle.rules.specs.Files;
+ghost use Rattle.rules.specs.Files.{one_to, shift_reader};
 ghost use Rattle.place.specs.Places.{place, going};
 ghost use Rattle.layout.specs.Flat.{filled, column_coefficients};
 ghost use Rattle.storing.specs.Storing.{into};
@@ -67,7 +68,7 @@ fn shift_list(s: &[u8], q: Place, m: usize, out: &mut [i32]) -> Going
 // How the reading goes on after the record.
 fn read_orders(s: &[u8], q: Place, n: usize, out: &mut [usize]) -> Going
     requires { (q.number < 65535) × (n ≤ length out.old) }
-    ensures { going result out.new ≡ into (list_into out.old) (OR n s.now (place q)) }
+    ensures { going result out.new ≡ into (list_into out.old) (Files.OR n s.now (place q)) }
 {
     match read_mark(s, opened(q), OR) {
         Field::Off(x) => Going::Off(x),
@@ -79,7 +80,7 @@ fn read_orders(s: &[u8], q: Place, n: usize, out: &mut [usize]) -> Going
 // How the reading goes on after the record.
 fn read_shifts(s: &[u8], q: Place, m: usize, out: &mut [i32]) -> Going
     requires { (q.number < 65535) × (m ≤ length out.old) }
-    ensures { going result out.new ≡ into (shifts_into out.old) (SH m s.now (place q)) }
+    ensures { going result out.new ≡ into (shifts_into out.old) (Files.SH m s.now (place q)) }
 {
     match read_mark(s, opened(q), SH) {
         Field::Off(x) => Going::Off(x),
@@ -91,7 +92,7 @@ fn read_shifts(s: &[u8], q: Place, m: usize, out: &mut [i32]) -> Going
 // How the reading goes on after the record.
 fn read_column(s: &[u8], q: Place, p: u32, m: usize, d: usize, j: usize, out: &mut [u32]) -> Going
     requires { (q.number < 65535) × (m ≤ most_rows) × (d ≤ most_order) × (j < most_rows) × (length out.old ≡ column_coefficients) }
-    ensures { going result out.new ≡ into (put_column out.old j) (FC p m d j s.now (place q)) }
+    ensures { going result out.new ≡ into (put_column out.old j) (Files.FC p m d j s.now (place q)) }
 {
     match read_mark(s, opened(q), FC) {
         Field::Off(x) => Going::Off(x),
@@ -116,7 +117,7 @@ fn read_columns(
     requires n_bound { (q.number + n < 65535) × (m ≤ most_rows) × (n ≤ most_rows) × (n ≤ length orders.now) }
     requires by_index { (j : ℕ) → get_or orders.now j 0 ≤ most_order }
     requires out_len { length out.old ≡ column_coefficients }
-    ensures { going result out.new ≡ into (columns_into out.old) (each n (λ j. FC p m (get_or orders.now j 0) j) s.now (place q)) }
+    ensures { going result out.new ≡ into (columns_into out.old) (each n (λ j. Files.FC p m (get_or orders.now j 0) j) s.now (place q)) }
 {
     let mut here = q;
     let mut j = 0;

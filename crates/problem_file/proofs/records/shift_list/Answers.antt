@@ -1,0 +1,31 @@
+-- `problem_file::records::shift_list` meets its contract. The loop's invariant: what is still to be read, stored into what stands there by now, is the whole
+-- work (`Kept`). The measure is how much is left. Assumes nothing.
+use mathlib.Core.Path.{refl, ◌∙◌}
+use native.Mathlib.Omega.{arith}
+use lib.ListN.{length-set}
+use mir.Facts.{to_z-of_z}
+use mir.Syntax.{w32}
+use Rattle.storing.specs.Storing.{began, stopped, went_on, ended}
+use Rattle.problem_file.specs.Shifts.{shift_off, shift_on, two_bytes}
+use Rattle.problem_file.proofs.records.shift_list.Goals as goal
+
+pub loop-i-init : goal.loop-i-init
+loop-i-init c = (omega arith, refl, began _ _ _ _ _ _)
+
+pub returns-in-Off : goal.returns-in-Off
+returns-in-Off c = stopped c.loop-i.invariant.2 c.loop-i-test.true (shift_off _ _ _ c.read_shift.ensures c.in-Off.is)
+
+pub signed16-requires : goal.signed16-requires
+signed16-requires c = two_bytes _ _ _ (λ k. omega (arith, c.shared_slice_known-1.given k)) c.read_shift.ensures c.in-Value.is
+
+pub loop-i-preserved : goal.loop-i-preserved
+loop-i-preserved c =
+    let loop = c.loop-i in (
+      omega arith,
+      simp length-set loop.invariant.1,
+      went_on loop.invariant.2 c.loop-i-test.true
+          (shift_on _ _ _ c.read_shift.ensures c.in-Value.is (to_z-of_z {w = w32} (record { sfits = c.signed16.type_inv }) ∙ c.signed16.ensures)),
+    )
+
+pub returns : goal.returns
+returns c = ended c.loop-i.invariant.2 c.loop-i-test.false
