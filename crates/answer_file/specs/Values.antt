@@ -6,7 +6,7 @@
 --   with_entries, with_coefficients          an answer without its arrays, or without P's coefficients, and with them
 --   answer_from, answer_given        an answer is its parts
 --   read_answer_refused      a refusal's offsets fit 32 bits
-use Rattle.std.specs.Prelude.{◌≡◌, refl, Bool, true, false, List, [], ℕ, ◌≤◌}
+use Rattle.std.specs.Prelude.{◌≡◌, Bool, true, false, List, [], ℕ, ◌≤◌}
 use Rattle.std.proofs.Common.{sym, ◌∙◌, arith}
 use Rattle.rules.specs.Sizes.{most_rows}
 use Rattle.rules.specs.Claim.{Problem, Answer}

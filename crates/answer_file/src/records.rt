@@ -2,7 +2,8 @@
 ghost use Rattle.std.specs.Prelude.{◌≡◌, ◌+◌, ◌≤◌, ◌<◌, length};
 ghost use Rattle.rules.specs.Sizes.{most_rows};
 ghost use Rattle.rules.specs.Reader.{each};
-ghost use Rattle.rules.specs.Files.{PE, CE, entries_reader};
+ghost use Rattle.rules.specs.Files;
+ghost use Rattle.rules.specs.Files.{entries_reader};
 ghost use Rattle.place.specs.Places.{place, going, taken};
 ghost use Rattle.layout.specs.Flat.{square, entry_coefficients};
 ghost use Rattle.storing.specs.Storing.{into};
@@ -47,7 +48,7 @@ fn read_entry(
     entries: &mut [u32],
 ) -> Going
     requires { (q.number < 65535) × (i < most_rows) × (j < most_rows) × (length lengths.old ≡ square) × (length entries.old ≡ entry_coefficients) }
-    ensures { going result (lengths.new, entries.new) ≡ into (put_entry i (lengths.old, entries.old) j) (PE p i j s.now (place q)) }
+    ensures { going result (lengths.new, entries.new) ≡ into (put_entry i (lengths.old, entries.old) j) (Files.PE p i j s.now (place q)) }
 {
     match read_mark(s, opened(q), PE) {
         Field::Off(x) => Going::Off(x),
@@ -75,7 +76,7 @@ fn read_row(
     entries: &mut [u32],
 ) -> Going
     requires { (q.number + m < 65535) × (m ≤ most_rows) × (i < most_rows) × (length lengths.old ≡ square) × (length entries.old ≡ entry_coefficients) }
-    ensures { going result (lengths.new, entries.new) ≡ into (row_into (lengths.old, entries.old) i) (each m (λ j. PE p i j) s.now (place q)) }
+    ensures { going result (lengths.new, entries.new) ≡ into (row_into (lengths.old, entries.old) i) (each m (λ j. Files.PE p i j) s.now (place q)) }
 {
     let mut here = q;
     let mut j = 0;
@@ -122,7 +123,7 @@ fn read_entries(
 // How the reading goes on after the record.
 fn read_evidence(s: &[u8], q: Place, p: u32, m: usize, n: usize, out: &mut [u32]) -> Going
     requires { (q.number < 65535) × (m ≤ most_rows) × (n ≤ most_rows) × (length out.old ≡ square) }
-    ensures { going result out.new ≡ into (evidence_into out.old) (CE p m n s.now (place q)) }
+    ensures { going result out.new ≡ into (evidence_into out.old) (Files.CE p m n s.now (place q)) }
 {
     match read_mark(s, opened(q), CE) {
         Field::Off(x) => Going::Off(x),
