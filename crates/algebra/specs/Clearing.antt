@@ -3,7 +3,6 @@
 --   det_factors              the determinant where each row has a factor
 --   vmul_neg                 the product of the negative of a row
 --   Clears, less             constants that subtract pivot rows from the other rows, and the identity less them
---   det_less                 its determinant is not 0
 --   row_of_others            a row that has a constant other than 0 in a combination to zero is a combination of the others
 use Rattle.std.specs.Prelude.{◌≡◌, ◌≢◌, Bool, true, false, [], ◌∷◌}
 use Rattle.std.proofs.Math.Path.{refl, sym, ap, ap₂}
@@ -15,8 +14,7 @@ use Rattle.algebra.specs.Ring.{CommRing, Nontrivial, Inverts}
 use Rattle.algebra.specs.Solver.{v0, v1, v2, ◌⊞◌, ◌⊠◌, ⊟◌, ring}
 use Rattle.algebra.specs.Sum.{sum, sum_cong, mul_sum, neg_sum, sum_replace, skip, replace, replace_at, replace_other}
 use Rattle.algebra.specs.Matrix.{Row, Matrix, unit, vmul, mmul, vmul_unit, unit_vmul, vmul_add, vmul_scale}
-use Rattle.algebra.specs.Det.{minor, det, det_local, det_unit}
-use Rattle.algebra.specs.ProductRule.{det_mul}
+use Rattle.algebra.specs.Det.{minor, det, det_local}
 
 module _ (R : CommRing) where
   open R use {C, 𝟘, 𝟙, ◌⊕◌, ◌⊗◌, ⊖◌, add_zero, add_neg, mul_assoc, mul_one}
@@ -57,43 +55,6 @@ module _ (R : CommRing) where
   -- The identity less w.
   unfoldable pub less : Matrix R → Matrix R
   less w i q = unit R i q ⊕ ⊖ w i q
-
-  module _ (m : ℕ) (pivot : ℕ → Bool) (w : Matrix R) (clears : Clears m pivot w) where
-    -- Then w·w is 0 …
-    twice : (i q k : ℕ) → i < m → q < m → k < m → w i q ⊗ w q k ≡ 𝟘
-    twice i q k hi hq hk = by (pivot q) refl
-      where
-        by : (b : Bool) → pivot q ≡ b → w i q ⊗ w q k ≡ 𝟘
-        by true e = ap (λ x. w i q ⊗ x) (clears.pivots_stay q k hq hk e) ∙ Ring.mul_zero R (w i q)
-        by false e = ap (λ x. x ⊗ w q k) (clears.pivots_alone i q hi hq e) ∙ Ring.zero_mul R (w q k)
-
-    -- … and I − w and I + w are inverses, …
-    inverse : (i k : ℕ) → i < m → k < m → mmul R m (less w) (less (λ i q. ⊖ w i q)) i k ≡ unit R i k
-    unfolding mmul vmul less
-    inverse i k hi hk =
-        vmul_add R m (unit R i) (λ q. ⊖ w i q) (less (λ i q. ⊖ w i q)) k
-        ∙ ap₂ (λ x y. x ⊕ y) (unit_vmul R m i (less (λ i q. ⊖ w i q)) hi k)
-        (sum_cong R m (λ q. ⊖ w i q ⊗ (unit R q k ⊕ ⊖ ⊖ w q k)) (λ q. ⊖ w i q ⊗ unit R q k)
-        (λ q hq. R.mul_add (⊖ w i q) (unit R q k) (⊖ ⊖ w q k)
-        ∙ ap (λ x. ⊖ w i q ⊗ unit R q k ⊕ x)
-        (Ring.neg_mul R (w i q) (⊖ ⊖ w q k)
-        ∙ ap (λ x. ⊖ (w i q ⊗ x)) (Ring.neg_neg R (w q k))
-        ∙ ap (λ x. ⊖ x) (twice i q k hi hq hk)
-        ∙ Ring.neg_zero R)
-        ∙ add_zero (⊖ w i q ⊗ unit R q k))
-        ∙ vmul_unit R m (λ q. ⊖ w i q) k hk)
-        ∙ R.add_assoc (unit R i k) (⊖ ⊖ w i k) (⊖ w i k)
-        ∙ ap (λ x. unit R i k ⊕ x) (Ring.neg_add R (⊖ w i k))
-        ∙ add_zero (unit R i k)
-
-    -- … so that the determinant of I − w is not 0.
-    pub det_less : Nontrivial R → det R m (less w) ≢ 𝟘
-    det_less nontrivial z =
-        nontrivial (sym (det_unit R m)
-        ∙ sym (det_local R m (mmul R m (less w) (less (λ i q. ⊖ w i q))) (unit R) inverse)
-        ∙ det_mul R m (less w) (less (λ i q. ⊖ w i q))
-        ∙ ap (λ x. x ⊗ det R m (less (λ i q. ⊖ w i q))) z
-        ∙ Ring.zero_mul R (det R m (less (λ i q. ⊖ w i q))))
 
   -- A row that has a constant other than 0 in a combination of rows to zero is a combination of the others.
   pub row_of_others : (inv : C → C) → Inverts R inv → (m i : ℕ) → i < m → (u : Row R) (A : Matrix R) (j : ℕ) → u i ≢ 𝟘 → vmul R m u A j ≡ 𝟘

@@ -3,8 +3,6 @@
 --   value a f                the value of a polynomial
 --   ev_powers                it is the sum of the coefficients times the powers of the point
 --   Evaluates a f y          f has a bound, and y is its value at a
---   evaluation               every operation of the ring keeps values
---   root_of_factor           a root of a product is a root of a factor
 use Rattle.std.specs.Prelude.{◌≡◌, ◌⊎◌}
 use Rattle.std.proofs.Math.Path.{refl, sym, ap, ap₂}
 use Rattle.std.proofs.Common.{◌∙◌, le_of_suc-le-suc, not-suc-le-zero, arith}
@@ -14,19 +12,15 @@ use Rattle.std.proofs.Math.Nat.{le-max_left, le-max_right}
 use Rattle.algebra.specs.Ring as Ring
 use Rattle.algebra.specs.Ring.{CommRing, Decides, Cancels, RingRelation, power}
 use Rattle.algebra.specs.Sum.{sum, sum_cong, mul_sum}
-use Rattle.algebra.specs.Series.{Series, tail, convolve, convolve_vanishes, constant, X}
-use Rattle.algebra.specs.Polynomial.{Below, below_mono, below_zero, below_constant, below_X, below_add, below_neg, below_mul, Poly}
+use Rattle.algebra.specs.Series.{tail, convolve, convolve_vanishes, constant, X}
+use Rattle.algebra.specs.Polynomial.{Below, below_mono, below_constant, below_X, Poly}
 
 module _ (R : CommRing) where
   open R use {C, 𝟘, 𝟙, ◌⊕◌, ◌⊗◌, ⊖◌, add_assoc, add_comm, add_zero, mul_assoc, mul_one, mul_add}
-  open Series R use {◌⊕◌ as ◌⊞◌, ◌⊗◌ as ◌⊠◌, ⊖◌ as ⊟◌}
 
   infixl 60 ◌⊕◌
   infixl 70 ◌⊗◌
   infix 80 ⊖◌
-  infixl 60 ◌⊞◌
-  infixl 70 ◌⊠◌
-  infix 80 ⊟◌
   -- The value at a of the coefficients below d.
   unfoldable pub ev : ℕ → C → (ℕ → C) → C
   ev zero a f = 𝟘
@@ -40,37 +34,11 @@ module _ (R : CommRing) where
   abbrev pub Evaluates : C → (ℕ → C) → C → Type 0
   Evaluates a f y = (d : ℕ) × (Below R d f) × (ev d a f ≡ y)
 
-  below_tail : {d : ℕ} (f : ℕ → C) → Below R (suc d) f → Below R d (tail R f)
-  below_tail f h k b = h (suc k) (suc-le-suc b)
-
   -- A series whose coefficients are 0 has the value 0.
   pub ev_vanishes : (d : ℕ) (a : C) (f : ℕ → C) → ((k : ℕ) → f k ≡ 𝟘) → ev d a f ≡ 𝟘
   unfolding ev
   ev_vanishes zero a f h = refl
   ev_vanishes (suc d) a f h = ap₂ (λ x y. x ⊕ a ⊗ y) (h zero) (ev_vanishes d a (tail R f) (λ k. h (suc k))) ∙ Ring.zero_add R (a ⊗ 𝟘) ∙ Ring.mul_zero R a
-
-  -- The value does not depend on the bound.
-  pub ev_mono : (d e : ℕ) (a : C) (f : ℕ → C) → d ≤ e → Below R d f → ev e a f ≡ ev d a f
-  unfolding ev
-  ev_mono zero e a f le h = ev_vanishes e a f (λ k. h k zero-le)
-  ev_mono (suc d) zero a f le h = absurd (not-suc-le-zero le)
-  ev_mono (suc d) (suc e) a f le h = ap (λ y. f zero ⊕ a ⊗ y) (ev_mono d e a (tail R f) (le_of_suc-le-suc le) (below_tail f h))
-
-  -- A series has one value at a point, whatever the bounds.
-  pub evaluates_unique : (a : C) (f : ℕ → C) {y z : C} → Evaluates a f y → Evaluates a f z → y ≡ z
-  evaluates_unique a f (d, hd, p) (e, he, q) = sym p ∙ sym (ev_mono d (max d e) a f (le-max_left d e) hd) ∙ ev_mono e (max d e) a f (le-max_right d e) he ∙ q
-
-  -- The value of a sum.
-  pub ev_add : (d : ℕ) (a : C) (f g : ℕ → C) → ev d a (f ⊞ g) ≡ ev d a f ⊕ ev d a g
-  unfolding ev
-  ev_add zero a f g = sym (add_zero 𝟘)
-  ev_add (suc d) a f g = ap (λ y. f zero ⊕ g zero ⊕ a ⊗ y) (ev_add d a (tail R f) (tail R g)) ∙ simp (mul_add, add_assoc, add_comm)
-
-  -- The value of a negative.
-  pub ev_neg : (d : ℕ) (a : C) (f : ℕ → C) → ev d a (⊟ f) ≡ ⊖ ev d a f
-  unfolding ev
-  ev_neg zero a f = sym (Ring.neg_zero R)
-  ev_neg (suc d) a f = ap (λ y. ⊖ f zero ⊕ a ⊗ y) (ev_neg d a (tail R f)) ∙ ap (λ y. ⊖ f zero ⊕ y) (Ring.mul_neg R a _) ∙ sym (Ring.neg_sum R _ _)
 
   -- A factor comes out of the value.
   pub ev_scale : (d : ℕ) (a c : C) (f : ℕ → C) → ev d a (λ k. c ⊗ f k) ≡ c ⊗ ev d a f
@@ -80,24 +48,6 @@ module _ (R : CommRing) where
       ap (λ y. c ⊗ f zero ⊕ a ⊗ y) (ev_scale d a c (tail R f))
       ∙ ap (λ y. c ⊗ f zero ⊕ y) (Ring.mul_left_comm R a c _)
       ∙ sym (mul_add c _ _)
-
-  regroup : (x y a z u v : C) → x ⊗ y ⊕ a ⊗ (x ⊗ z ⊕ u ⊗ v) ≡ x ⊗ (y ⊕ a ⊗ z) ⊕ a ⊗ u ⊗ v
-  regroup x y a z u v = simp (mul_add, mul_assoc, add_assoc, Ring.mul_left_comm R)
-
-  -- The value of a product.
-  pub ev_mul : (d e : ℕ) (a : C) (f g : ℕ → C) → Below R d f → Below R e g → ev (d + e) a (f ⊠ g) ≡ ev d a f ⊗ ev e a g
-  unfolding ev convolve
-  ev_mul zero e a f g hf hg =
-      ev_vanishes (zero + e) a (f ⊠ g) (λ k. convolve_vanishes R f g k (λ i j p. ap (λ x. x ⊗ g j) (hf i zero-le) ∙ Ring.zero_mul R (g j)))
-      ∙ sym (Ring.zero_mul R _)
-  ev_mul (suc d) e a f g hf hg =
-      ap (λ n. ev n a (f ⊠ g)) (Nat.suc-add d e)
-      ∙ ap (λ y. f zero ⊗ g zero ⊕ a ⊗ y)
-      (ev_add (d + e) a (λ k. f zero ⊗ g (suc k)) (tail R f ⊠ g)
-      ∙ ap₂ (λ x y. x ⊕ y) (ev_scale (d + e) a (f zero) (tail R g)) (ev_mul d e a (tail R f) g (below_tail f hf) hg))
-      ∙ regroup (f zero) (g zero) a (ev (d + e) a (tail R g)) (ev d a (tail R f)) (ev e a g)
-      ∙ ap (λ y. f zero ⊗ y ⊕ a ⊗ ev d a (tail R f) ⊗ ev e a g) (ev_mono e (suc (d + e)) a g (omega arith) hg)
-      ∙ sym (Ring.add_mul R _ _ _)
 
   -- The value is the sum of the f k · aᵏ.
   pub ev_powers : (d : ℕ) (a : C) (f : ℕ → C) → ev d a f ≡ sum R d (λ k. f k ⊗ power R a k)
@@ -109,49 +59,12 @@ module _ (R : CommRing) where
       ∙ mul_sum R d a (λ k. f (suc k) ⊗ power R a k)
       ∙ sum_cong R d (λ k. a ⊗ (f (suc k) ⊗ power R a k)) (λ k. f (suc k) ⊗ (a ⊗ power R a k)) (λ k b. Ring.mul_left_comm R a (f (suc k)) (power R a k)))
 
-  -- A constant has its own value.
-  pub evaluates_constant : (a c : C) → Evaluates a (constant R c) c
-  unfolding ev constant
-  evaluates_constant a c = (1, below_constant R c, ap (λ y. c ⊕ y) (Ring.mul_zero R a) ∙ add_zero c)
-
-  -- The variable has the value a.
-  pub evaluates_X : (a : C) → Evaluates a (X R) a
-  unfolding ev X evaluates_constant
-  evaluates_X a = (2, below_X R, ap (λ y. 𝟘 ⊕ a ⊗ y) (evaluates_constant a 𝟙).2 ∙ Ring.zero_add R (a ⊗ 𝟙) ∙ mul_one a)
-
   -- A polynomial evaluates to its value.
   pub evaluates_value : (a : C) (f : Poly R) → Evaluates a f.series (value a f)
   evaluates_value a f = (f.bound, f.below, refl)
-
-  evaluates_add : (a : C) (f g : ℕ → C) {y z : C} → Evaluates a f y → Evaluates a g z → Evaluates a (f ⊞ g) (y ⊕ z)
-  evaluates_add a f g (d, hd, p) (e, he, q) = (
-    max d e,
-    below_add R f g (below_mono R f (le-max_left d e) hd) (below_mono R g (le-max_right d e) he),
-    ev_add (max d e) a f g ∙ ap₂ (λ x y. x ⊕ y) (ev_mono d (max d e) a f (le-max_left d e) hd ∙ p) (ev_mono e (max d e) a g (le-max_right d e) he ∙ q),
-  )
-
-  evaluates_mul : (a : C) (f g : ℕ → C) {y z : C} → Evaluates a f y → Evaluates a g z → Evaluates a (f ⊠ g) (y ⊗ z)
-  evaluates_mul a f g (d, hd, p) (e, he, q) = (d + e, below_mul R f g hd he, ev_mul d e a f g hd he ∙ ap₂ (λ x y. x ⊗ y) p q)
-
-  -- Every operation of the ring keeps values: evaluation at a point is a homomorphism from the polynomials.
-  pub evaluation : (a : C) → RingRelation (Series R) R (Evaluates a)
-  unfolding ev
-  evaluation a = record {
-    rel_zero = (0, below_zero R 0, refl);
-    rel_one = evaluates_constant a 𝟙;
-    rel_add = λ {a = f} {b = g} p q. evaluates_add a f g p q;
-    rel_mul = λ {a = f} {b = g} p q. evaluates_mul a f g p q;
-    rel_neg = λ {a = f} (d, h, p). (d, below_neg R f h, ev_neg d a f ∙ ap (λ x. ⊖ x) p);
-  }
 
   -- The value at 0 is the coefficient at 0.
   pub evaluates_at_zero : (f : ℕ → C) {y : C} → Evaluates 𝟘 f y → y ≡ f zero
   unfolding ev
   evaluates_at_zero f (zero, h, p) = sym p ∙ sym (h zero zero-le)
   evaluates_at_zero f (suc d, h, p) = sym p ∙ ap (λ y. f zero ⊕ y) (Ring.zero_mul R _) ∙ add_zero (f zero)
-
-  -- A root of a product is a root of a factor.
-  pub root_of_factor : Decides R → Cancels R → (a : C) (f g : Poly R) → Evaluates a (f.series ⊠ g.series) 𝟘 → (value a f ≡ 𝟘) ⊎ (value a g ≡ 𝟘)
-  root_of_factor decides cancels a f g h =
-      Ring.zero_factor R decides cancels (value a f) (value a g)
-      (evaluates_unique a (f.series ⊠ g.series) ((evaluation a).rel_mul (evaluates_value a f) (evaluates_value a g)) h)

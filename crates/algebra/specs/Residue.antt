@@ -216,7 +216,3 @@ module _ (p : ℕ) where
   K_inverts prime a na =
       inverse_loop_inverts prime a a.0 a.0 𝟙 (le_refl a.0) (pos_of_ne-zero (λ e. na (sym (red_onto p a) ∙ ap (red p) e)))
       (residue_below (le_of_lt prime.two_le) a) (mul_one a ∙ sym (red_onto p a))
-
-  -- There are no zero divisors modulo a prime.
-  pub K_cancels : Prime p → Cancels (K p)
-  K_cancels prime = cancels_of_inverts (K p) K_inverse (K_inverts prime)

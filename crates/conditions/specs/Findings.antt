@@ -8,7 +8,7 @@ use Rattle.std.proofs.Math.Path.{sym, ap}
 use Rattle.std.proofs.Common.{ap₂, ◌∙◌, arith}
 use Rattle.std.proofs.Math.Option.{Option, none, some}
 use Rattle.algebra.specs.Residue.{K}
-use Rattle.algebra.specs.Series.{Series}
+use Rattle.algebra.proofs.Series.{Series}
 use Rattle.algebra.specs.Det.{det}
 use Rattle.algebra.specs.Dependence.{Dependent}
 use Rattle.algebra.specs.OrderBasis.{Monomial}

@@ -8,12 +8,13 @@ use Rattle.std.proofs.Math.Path.{refl, subst}
 use Rattle.std.proofs.Common.{sym, ap, ◌∙◌, arith}
 use Rattle.std.proofs.Math.Nat.{le_of_lt}
 use Rattle.algebra.specs.Residue.{K, red}
-use Rattle.algebra.specs.Series.{Series, series_ext}
+use Rattle.algebra.specs.Series.{series_ext}
+use Rattle.algebra.proofs.Series.{Series}
 use Rattle.algebra.specs.Matrix.{Matrix, Same}
 use Rattle.algebra.specs.Det.{det, det_local}
 use Rattle.algebra.specs.Dependence.{Dependent, dependent_local}
 use Rattle.algebra.specs.OrderBasis.{Monomial}
-use Rattle.algebra.specs.PolyMatrix.{entries as series_entries}
+use Rattle.algebra.proofs.PolyMatrix.{entries as series_entries}
 use Rattle.rules.specs.Claim.{Problem}
 use Rattle.rules.specs.Matrices.{matrix_P}
 use Rattle.rules.specs.Conditions.{leading_matrix, reduced, monomial_determinant, rank_matrix, rank_below}

@@ -10,8 +10,10 @@ use Rattle.algebra.specs.Ring as Ring
 use Rattle.algebra.specs.Ring.{CommRing, sign}
 use Rattle.algebra.specs.Sum.{sum, sum_last, skip, skip_below}
 use Rattle.algebra.specs.Residue.{K, Residue, red, red_mod}
-use Rattle.algebra.specs.Series.{Series, series_ext, convolve}
-use Rattle.algebra.specs.Polynomial.{Below, below_mono, below_zero, below_add, below_mul_suc}
+use Rattle.algebra.specs.Series.{series_ext, convolve}
+use Rattle.algebra.proofs.Series.{Series}
+use Rattle.algebra.specs.Polynomial.{Below, below_mono}
+use Rattle.algebra.proofs.Polynomial.{below_zero, below_add, below_mul_suc}
 use Rattle.algebra.specs.Matrix.{Matrix}
 use Rattle.algebra.specs.Det.{det, minor, det_local}
 use Rattle.rules.specs.Sizes.{most_rows}

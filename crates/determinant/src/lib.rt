@@ -6,7 +6,7 @@
 
 ghost use Rattle.std.specs.Prelude.{◌≡◌, pred, max, ◌+◌, ◌≤◌, ◌<◌};
 ghost use Rattle.algebra.specs.Residue.{K};
-ghost use Rattle.algebra.specs.Series.{Series};
+ghost use Rattle.algebra.proofs.Series.{Series};
 ghost use Rattle.algebra.specs.Sum.{skip};
 ghost use Rattle.algebra.specs.Det.{det};
 ghost use Rattle.rules.specs.Sizes.{most_rows, most_length};

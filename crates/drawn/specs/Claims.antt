@@ -11,7 +11,8 @@ use Rattle.algebra.specs.Ring.{power}
 use Rattle.algebra.specs.Residue.{K, Residue, red}
 use Rattle.algebra.specs.Sum.{sum, sum_cong}
 use Rattle.algebra.specs.Series.{convolve}
-use Rattle.algebra.specs.Degree.{coefficient, coefficient_sum}
+use Rattle.algebra.specs.Degree.{coefficient}
+use Rattle.algebra.proofs.Degree.{coefficient_sum}
 use Rattle.algebra.specs.Matrix.{vmul, mmul}
 use Rattle.algebra.specs.Evaluation.{ev}
 use Rattle.rules.specs.Claim.{Problem}

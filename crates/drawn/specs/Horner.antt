@@ -12,7 +12,8 @@ use Rattle.algebra.specs.Ring as Ring
 use Rattle.algebra.specs.Ring.{CommRing, power}
 use Rattle.algebra.specs.Sum.{sum, sum_cong, sum_zero, sum_add, sum_last, mul_sum}
 use Rattle.algebra.specs.Series.{tail, convolve}
-use Rattle.algebra.specs.Evaluation.{ev, ev_add, ev_scale, ev_powers}
+use Rattle.algebra.specs.Evaluation.{ev, ev_scale, ev_powers}
+use Rattle.algebra.proofs.Evaluation.{ev_add}
 
 module _ (R : CommRing) where
   open R use {C, 𝟘, 𝟙, ◌⊕◌, ◌⊗◌, ⊖◌, add_assoc, add_comm, add_zero, mul_assoc, mul_comm, mul_add}

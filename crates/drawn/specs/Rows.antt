@@ -9,8 +9,10 @@ use Prim.Native.Nat.{ℕ, zero, suc, ◌<◌}
 use Rattle.algebra.specs.Ring as Ring
 use Rattle.algebra.specs.Ring.{CommRing, power}
 use Rattle.algebra.specs.Sum.{sum, sum_cong, sum_add, sum_last, sum_swap, mul_sum, neg_sum}
-use Rattle.algebra.specs.Series.{convolve, convolve_comm, convolve_add, convolve_scale, convolve_vanishes}
-use Rattle.algebra.specs.Evaluation.{ev, ev_add, ev_vanishes, ev_powers}
+use Rattle.algebra.specs.Series.{convolve, convolve_add, convolve_scale, convolve_vanishes}
+use Rattle.algebra.proofs.Series.{convolve_comm}
+use Rattle.algebra.specs.Evaluation.{ev, ev_vanishes, ev_powers}
+use Rattle.algebra.proofs.Evaluation.{ev_add}
 
 module _ (R : CommRing) where
   open R use {C, 𝟘, ◌⊕◌, ◌⊗◌, ⊖◌, add_assoc, mul_comm, mul_add}

@@ -9,11 +9,12 @@ use Rattle.std.proofs.Common.{sym, ap, ap₂, subst, ◌∙◌, le_of_lt, mod-eq
 use Rattle.std.proofs.Math.Path.{fun_ext}
 use Rattle.std.proofs.Math.Logic.Iff
 use Rattle.algebra.specs.Prime.{Prime}
-use Rattle.algebra.specs.Residue.{K, red, K_decides, K_nontrivial, K_inverse, K_inverts, K_cancels}
+use Rattle.algebra.specs.Residue.{K, red, K_decides, K_nontrivial, K_inverse, K_inverts}
+use Rattle.algebra.proofs.Residue.{K_cancels}
 use Rattle.algebra.specs.Sum.{swap, swap_left, swap_cases, exchange}
 use Rattle.algebra.specs.Det.{det}
 use Rattle.algebra.specs.Dependence.{Dependent}
-use Rattle.algebra.specs.Elimination.{dependent_iff_det_zero}
+use Rattle.algebra.proofs.Elimination.{dependent_iff_det_zero}
 use Rattle.rules.specs.Inverse.{InverseOf}
 use Rattle.laws.specs.InverseLaws.{inverse_exists}
 use Rattle.field.specs.Laws.{remainder_below, red_of_sub, red_of_mul, red_of_inverse}

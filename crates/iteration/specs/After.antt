@@ -14,7 +14,7 @@ use Rattle.std.proofs.Math.ListN.{get_or-eq_default}
 use Rattle.algebra.specs.Residue.{K, red, red_zero}
 use Rattle.algebra.specs.Integer.{nat_abs_add}
 use Rattle.algebra.specs.Clearing.{Clears}
-use Rattle.algebra.specs.PolyMatrix.{entries as series_entries}
+use Rattle.algebra.proofs.PolyMatrix.{entries as series_entries}
 use Rattle.algebra.specs.Step.{once}
 use Rattle.rules.specs.Sizes.{most_rows, most_order, most_shift, most_length}
 use Rattle.rules.specs.Claim.{Problem}

@@ -7,7 +7,8 @@ use Rattle.std.proofs.Math.Bool.{false}
 use Rattle.std.proofs.Math.ListN.{get_or}
 use Rattle.algebra.specs.Ring as Ring
 use Rattle.algebra.specs.Residue.{K, red, red_zero}
-use Rattle.algebra.specs.Series.{Series, shift}
+use Rattle.algebra.specs.Series.{shift}
+use Rattle.algebra.proofs.Series.{Series}
 use Rattle.algebra.specs.Matrix.{Matrix, unit, vmul, vmul_cong, vmul_add, vmul_zero, unit_vmul}
 use Rattle.algebra.specs.Clearing.{vmul_neg, Clears, less}
 use Rattle.algebra.specs.Step.{once, cleared, next}

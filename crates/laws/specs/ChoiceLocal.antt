@@ -14,7 +14,7 @@ use Rattle.std.specs.Int.Signed.{le_z}
 use Rattle.algebra.specs.Residue.{K}
 use Rattle.algebra.specs.Sum.{replace}
 use Rattle.algebra.specs.Matrix.{Row, Matrix, vmul, vmul_cong}
-use Rattle.algebra.specs.StepRank.{vmul_zeros}
+use Rattle.algebra.proofs.StepRank.{vmul_zeros}
 use Rattle.rules.specs.Maker.{lower_left, next_row, find_constants, depends, Chosen, take_row, take_rows}
 use Rattle.laws.specs.SearchLaws.{some_below_cong, first_below_cong}
 use Rattle.laws.specs.FindLaws.{depends_iff}

@@ -18,8 +18,9 @@ use Rattle.algebra.specs.Integer.{Integers}
 use Rattle.algebra.specs.Residue.{K, Residue, K_decides}
 use Rattle.algebra.specs.Sum.{sum, sum_zeros}
 use Rattle.algebra.specs.Polynomial.{Below}
-use Rattle.algebra.specs.Degree.{AtMost, det_degree}
-use Rattle.algebra.specs.PolyMatrix.{entries}
+use Rattle.algebra.specs.Degree.{AtMost}
+use Rattle.algebra.proofs.Degree.{det_degree}
+use Rattle.algebra.proofs.PolyMatrix.{entries}
 use Rattle.algebra.specs.OrderBasis.{Monomial}
 use Rattle.rules.specs.Claim.{Problem}
 use Rattle.rules.specs.Matrices.{at, matrix_P}

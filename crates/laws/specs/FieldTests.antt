@@ -8,7 +8,8 @@ use Rattle.std.proofs.Math.Logic.{by_cases}
 use Rattle.std.proofs.Math.Decide.{ℕ_discrete}
 use Rattle.std.proofs.Math.Arith.{lt→nleb}
 use Rattle.std.proofs.Math.Dec.{nleb→lt, eqb_refl, not_T}
-use Rattle.algebra.specs.Prime.{Prime, prime_iff_no_divisor}
+use Rattle.algebra.specs.Prime.{Prime}
+use Rattle.algebra.proofs.Prime.{prime_iff_no_divisor}
 use Rattle.rules.specs.Sizes.{largest_prime}
 use Rattle.laws.specs.BoolLaws.{true_iff, and_iff}
 use Rattle.rules.specs.Files.{no_divisor, is_prime, allowed_prime, one_to, coefficient_test}

@@ -10,10 +10,11 @@ use Rattle.std.proofs.Math.Nat.{le_trans}
 use Rattle.std.proofs.Math.Decide.{dec_le}
 use Rattle.std.proofs.Math.ListN.{length, get_or, get_or-eq_default}
 use Rattle.algebra.specs.Residue.{K, Residue, red, red_onto, residue_below}
-use Rattle.algebra.specs.Series.{Series, series_ext}
+use Rattle.algebra.specs.Series.{series_ext}
+use Rattle.algebra.proofs.Series.{Series}
 use Rattle.algebra.specs.Polynomial.{Below}
 use Rattle.algebra.specs.Matrix.{Matrix, Same}
-use Rattle.algebra.specs.PolyMatrix.{entries}
+use Rattle.algebra.proofs.PolyMatrix.{entries}
 use Rattle.rules.specs.Sizes.{most_length}
 use Rattle.rules.specs.Claim.{Problem}
 use Rattle.rules.specs.Matrices.{at, matrix_P}

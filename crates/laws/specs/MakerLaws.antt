@@ -10,15 +10,19 @@ use Rattle.std.proofs.Math.Option.{some, get_or}
 use Prim.Native.Nat.{ℕ, zero, suc, min, ◌+◌, ◌≤◌, ◌<◌, zero-le}
 use Rattle.std.proofs.Math.Dec.{ltb→lt}
 use Rattle.std.proofs.Math.IntN.{pos}
-use Rattle.algebra.specs.Residue.{K, K_decides, K_cancels, K_nontrivial}
-use Rattle.algebra.specs.Series.{Series, constant}
+use Rattle.algebra.specs.Residue.{K, K_decides, K_nontrivial}
+use Rattle.algebra.proofs.Residue.{K_cancels}
+use Rattle.algebra.specs.Series.{constant}
+use Rattle.algebra.proofs.Series.{Series}
 use Rattle.algebra.specs.Polynomial.{Below, below_constant, below_mono}
 use Rattle.algebra.specs.Matrix.{Matrix, Same, unit, vmul, vmul_cong, mmul, unit_related}
-use Rattle.algebra.specs.PolyMatrix.{entries}
-use Rattle.algebra.specs.Step.{once, next, next_product, residuals, Choice, Basis}
-use Rattle.algebra.specs.StepDegrees.{constants_related}
-use Rattle.algebra.specs.StepRank.{next_below}
-use Rattle.algebra.specs.StepBasis.{identity_basis, step_basis, basis_row_degree, choice_local, basis_local}
+use Rattle.algebra.proofs.PolyMatrix.{entries}
+use Rattle.algebra.specs.Step.{once, next, Choice}
+use Rattle.algebra.proofs.Step.{next_product, residuals, Basis}
+use Rattle.algebra.proofs.StepDegrees.{constants_related}
+use Rattle.algebra.proofs.StepRank.{next_below}
+use Rattle.algebra.specs.StepBasis.{choice_local}
+use Rattle.algebra.proofs.StepBasis.{identity_basis, step_basis, basis_row_degree, basis_local}
 use Rattle.rules.specs.Sizes.{most_order, most_length}
 use Rattle.rules.specs.Claim.{Problem}
 use Rattle.rules.specs.Matrices.{order, shift, at, matrix_F, matrix_P, product}

@@ -18,15 +18,16 @@ use native.Mathlib.Omega.{arith}
 use Rattle.std.proofs.Math.Decide.{dec_lt, ℕ_discrete}
 use Rattle.std.proofs.Math.ListN.{length, get_or, take, length-take, get_or-eq_default}
 use Rattle.algebra.specs.Residue.{K, red, red_onto, red_value}
-use Rattle.algebra.specs.Series.{Series, series_ext, constant}
+use Rattle.algebra.specs.Series.{series_ext, constant}
+use Rattle.algebra.proofs.Series.{Series}
 use Rattle.algebra.specs.Matrix.{Matrix, unit, unit_diagonal, unit_off, mmul, beside, beside_same}
 use Rattle.algebra.specs.Det.{det_local}
-use Rattle.algebra.specs.Degree.{leading}
+use Rattle.algebra.proofs.Degree.{leading}
 use Rattle.algebra.specs.Dependence.{independent_local, independent_not_dependent}
-use Rattle.algebra.specs.PolyMatrix.{entries}
-use Rattle.algebra.specs.Step.{residuals, Basis}
-use Rattle.algebra.specs.StepRank.{vmul_zeros}
-use Rattle.algebra.specs.StepBasis.{cut_basis, basis_local}
+use Rattle.algebra.proofs.PolyMatrix.{entries}
+use Rattle.algebra.proofs.Step.{residuals, Basis}
+use Rattle.algebra.proofs.StepRank.{vmul_zeros}
+use Rattle.algebra.proofs.StepBasis.{cut_basis, basis_local}
 use Rattle.rules.specs.Sizes.{most_order}
 use Rattle.rules.specs.Claim.{Problem, Claim}
 use Rattle.rules.specs.Matrices.{order, shift, at, matrix_F, matrix_P, matrix_C, product}

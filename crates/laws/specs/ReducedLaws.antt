@@ -19,10 +19,11 @@ use Rattle.algebra.specs.Integer.{Integers}
 use Rattle.algebra.specs.Residue.{K, red}
 use Rattle.algebra.specs.Polynomial.{Below}
 use Rattle.algebra.specs.Det.{det, det_local}
-use Rattle.algebra.specs.Adjugate.{det_zero_row}
+use Rattle.algebra.proofs.Adjugate.{det_zero_row}
 use Rattle.algebra.specs.Sum.{sum}
-use Rattle.algebra.specs.Degree.{AtMost, EntriesAtMost, at_most_zeros, coefficient, coefficient_zeros, leading, degree_of_det}
-use Rattle.algebra.specs.PolyMatrix.{entries}
+use Rattle.algebra.specs.Degree.{AtMost, at_most_zeros, coefficient, coefficient_zeros}
+use Rattle.algebra.proofs.Degree.{EntriesAtMost, leading, degree_of_det}
+use Rattle.algebra.proofs.PolyMatrix.{entries}
 use Rattle.rules.specs.Claim.{Problem}
 use Rattle.rules.specs.Matrices.{shift, at, matrix_P}
 use Rattle.rules.specs.Conditions.{shifted_degree_of, row_degree_of, row_degree, leading_coefficient, leading_matrix, reduced, determinant, less}

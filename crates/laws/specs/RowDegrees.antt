@@ -10,7 +10,7 @@ use Rattle.std.proofs.Math.Option.{Option, none, some}
 use Rattle.std.proofs.Math.IntN.{+ℤ-neg_ℤ_cancel}
 use Rattle.algebra.specs.Residue.{K, red, red_zero_iff}
 use Rattle.algebra.specs.Degree.{coefficient, coefficient_zeros}
-use Rattle.algebra.specs.Predictable.{RowDegree, row_degree_unique}
+use Rattle.algebra.proofs.Predictable.{RowDegree, row_degree_unique}
 use Rattle.rules.specs.Claim.{Problem, Claim}
 use Rattle.rules.specs.Matrices.{shift, at, matrix_P}
 use Rattle.laws.specs.Valid.{ValidBasis}

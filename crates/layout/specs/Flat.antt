@@ -11,7 +11,7 @@
 use Rattle.std.specs.Prelude.{◌≡◌, Bool, true, false, cond, List, ℕ, ◌+◌, ◌*◌, ◌≤◌, ◌<◌, ltb, ℤ, pos, get_or, replicate}
 use Rattle.std.proofs.Common.{ap, lt-ltb, le-ltb}
 use Rattle.algebra.specs.Residue.{K, red}
-use Rattle.algebra.specs.Series.{Series}
+use Rattle.algebra.proofs.Series.{Series}
 use Rattle.algebra.specs.Matrix.{Matrix}
 use Rattle.rules.specs.Sizes.{most_rows, most_order, most_length}
 

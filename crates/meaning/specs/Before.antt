@@ -15,9 +15,10 @@ use Rattle.algebra.specs.Integer.{Integers}
 use Rattle.algebra.specs.Sum.{sum}
 use Rattle.algebra.specs.Matrix.{Matrix}
 use Rattle.algebra.specs.Det.{det, det_local}
-use Rattle.algebra.specs.Adjugate.{det_zero_row}
-use Rattle.algebra.specs.Degree.{coefficient, coefficient_zeros, leading}
-use Rattle.algebra.specs.Predictable.{row_coefficient_above}
+use Rattle.algebra.proofs.Adjugate.{det_zero_row}
+use Rattle.algebra.specs.Degree.{coefficient, coefficient_zeros}
+use Rattle.algebra.proofs.Degree.{leading}
+use Rattle.algebra.proofs.Predictable.{row_coefficient_above}
 use Rattle.rules.specs.Claim.{Claim}
 use Rattle.rules.specs.Matrices.{shift, at}
 use Rattle.rules.specs.Conditions.{shifted_degree_of, largest, row_degree_of, row_degree, leading_matrix, degree_sum}

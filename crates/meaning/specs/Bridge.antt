@@ -9,10 +9,12 @@ use Rattle.std.proofs.Math.Decide.{dec_le}
 use Rattle.std.proofs.Math.ListN.{get_or, get_or-eq_default}
 use Rattle.algebra.specs.Residue.{K, red, red_mul, red_onto}
 use Rattle.algebra.specs.Sum.{sum_cong}
-use Rattle.algebra.specs.Series.{Series, convolve, convolve_sum}
+use Rattle.algebra.specs.Series.{convolve, convolve_sum}
+use Rattle.algebra.proofs.Series.{Series}
 use Rattle.algebra.specs.Polynomial.{Poly}
 use Rattle.algebra.specs.Matrix.{vmul}
-use Rattle.algebra.specs.Degree.{coefficient, coefficient_sum}
+use Rattle.algebra.specs.Degree.{coefficient}
+use Rattle.algebra.proofs.Degree.{coefficient_sum}
 use Rattle.rules.specs.Matrices.{polynomial}
 use Rattle.rules.specs.Table.{table, length_table, get_or_table}
 use Rattle.laws.specs.SumLaws.{red_sum}

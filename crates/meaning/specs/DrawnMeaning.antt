@@ -22,12 +22,14 @@ use native.Mathlib.Omega.{arith}
 use Rattle.std.proofs.Math.ListN.{get_or}
 use Rattle.algebra.specs.Ring as Ring
 use Rattle.algebra.specs.Prime.{Prime}
-use Rattle.algebra.specs.Residue.{Residue, red, red_eq, red_mul, K_decides, K_cancels}
+use Rattle.algebra.specs.Residue.{Residue, red, red_eq, red_mul, K_decides}
+use Rattle.algebra.proofs.Residue.{K_cancels}
 use Rattle.algebra.specs.Count.{count, count_most}
 use Rattle.algebra.specs.Sum.{sum_cong, sum_zero, sum_add, neg_sum, sum_determines}
 use Rattle.algebra.specs.Polynomial.{Below}
 use Rattle.algebra.specs.Evaluation.{ev, ev_vanishes, ev_powers}
-use Rattle.algebra.specs.Roots.{red_distinct, count_roots_modulo}
+use Rattle.algebra.specs.Roots.{red_distinct}
+use Rattle.algebra.proofs.Roots.{count_roots_modulo}
 use Rattle.rules.specs.Sizes.{most_order}
 use Rattle.rules.specs.Claim.{Claim}
 use Rattle.rules.specs.Matrices.{order}

@@ -9,13 +9,17 @@
 use Rattle.std.specs.Prelude.{◌≡◌, refl, ◌≢◌, true, List, [], ◌∷◌, map, ℕ, zero, suc, ◌%◌, ◌≤◌, ◌<◌, ℤ, pos, ◌+ℤ◌, get_or}
 use Rattle.std.proofs.Common.{sym, ap, subst, ◌∙◌, suc-ne-zero, arith, lit<, lit≤}
 use Rattle.std.proofs.Math.Option.{Option, some, some-injective}
-use Rattle.algebra.specs.Prime.{Prime, prime_iff_no_divisor}
+use Rattle.algebra.specs.Prime.{Prime}
+use Rattle.algebra.proofs.Prime.{prime_iff_no_divisor}
 use Rattle.algebra.specs.Residue.{K, red, red_eq, K_nontrivial}
 use Rattle.algebra.specs.Sum.{sum}
-use Rattle.algebra.specs.Series.{Series, series_ext, constant}
+use Rattle.algebra.specs.Series.{series_ext, constant}
+use Rattle.algebra.proofs.Series.{Series}
 use Rattle.algebra.specs.Matrix.{vmul}
-use Rattle.algebra.specs.Root.{lin, root_of_multiple}
-use Rattle.algebra.specs.Evaluation.{Evaluates, evaluates_unique, evaluates_constant}
+use Rattle.algebra.specs.Root.{lin}
+use Rattle.algebra.proofs.Root.{root_of_multiple}
+use Rattle.algebra.specs.Evaluation.{Evaluates}
+use Rattle.algebra.proofs.Evaluation.{evaluates_unique, evaluates_constant}
 use Rattle.rules.specs.Claim.{Claim}
 use Rattle.rules.specs.Matrices.{order, at, polynomial}
 use Rattle.rules.specs.Conditions.{row_degree, reduced, sum_below}

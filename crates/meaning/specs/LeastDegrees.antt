@@ -17,17 +17,18 @@ use Rattle.std.proofs.Math.ListN.{get_or}
 use Rattle.algebra.specs.Solver.{v0, v1, v2, v3, ◌⊞◌, ring}
 use Rattle.algebra.specs.Integer.{Integers, more_self, more_trans, more_either}
 use Rattle.algebra.specs.Prime.{Prime}
-use Rattle.algebra.specs.Residue.{K, red, red_eq, red_zero_iff, K_decides, K_cancels}
+use Rattle.algebra.specs.Residue.{K, red, red_eq, red_zero_iff, K_decides}
+use Rattle.algebra.proofs.Residue.{K_cancels}
 use Rattle.algebra.specs.Sum.{zeros_or_not}
-use Rattle.algebra.specs.Series.{Series}
-use Rattle.algebra.specs.Polynomial.{degree}
+use Rattle.algebra.proofs.Series.{Series}
+use Rattle.algebra.proofs.Polynomial.{degree}
 use Rattle.algebra.specs.Matrix.{Row, Matrix, vmul}
 use Rattle.algebra.specs.Det.{det, det_local}
-use Rattle.algebra.specs.Adjugate.{det_zero_row}
-use Rattle.algebra.specs.Degree.{leading}
-use Rattle.algebra.specs.Predictable.{RowDegree, row_degree_coefficients, row_zero_or_degree, row_degree_unique, predictable_degree}
-use Rattle.algebra.specs.Generation.{Generated}
-use Rattle.algebra.specs.TwoBases.{same_degrees}
+use Rattle.algebra.proofs.Adjugate.{det_zero_row}
+use Rattle.algebra.proofs.Degree.{leading}
+use Rattle.algebra.proofs.Predictable.{RowDegree, row_degree_coefficients, row_zero_or_degree, row_degree_unique, predictable_degree}
+use Rattle.algebra.proofs.Generation.{Generated}
+use Rattle.algebra.proofs.TwoBases.{same_degrees}
 use Rattle.rules.specs.Claim.{Problem, Answer, Claim}
 use Rattle.rules.specs.Matrices.{shift, at, polynomial, matrix_P}
 use Rattle.laws.specs.Ranges.{claim_got, claim_valid}

@@ -10,9 +10,9 @@ use Rattle.std.proofs.Math.Option.{some}
 use Rattle.std.proofs.Math.Decide.{ℕ_discrete}
 use Rattle.algebra.specs.Prime.{Prime}
 use Rattle.algebra.specs.Residue.{red_eq, K_decides, K_inverse, K_inverts, K_nontrivial}
-use Rattle.algebra.specs.Series.{Series}
+use Rattle.algebra.proofs.Series.{Series}
 use Rattle.algebra.specs.Matrix.{mmul}
-use Rattle.algebra.specs.OrderBasis.{Vanishes, order_basis}
+use Rattle.algebra.proofs.OrderBasis.{Vanishes, order_basis}
 use Rattle.rules.specs.Claim.{Claim}
 use Rattle.rules.specs.Matrices.{order, matrix_F, matrix_P, matrix_C, product}
 use Rattle.rules.specs.Conditions.{degree_sum}

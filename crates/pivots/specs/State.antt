@@ -11,7 +11,8 @@ use Rattle.std.proofs.Math.Option.{Option, none, some}
 use Rattle.std.proofs.Math.Decide.{ℕ_discrete, dec_lt}
 use Rattle.algebra.specs.Ring as Ring
 use Rattle.algebra.specs.Prime.{Prime}
-use Rattle.algebra.specs.Residue.{K, red, red_zero, red_one, red_zero_iff, K_cancels}
+use Rattle.algebra.specs.Residue.{K, red, red_zero, red_one, red_zero_iff}
+use Rattle.algebra.proofs.Residue.{K_cancels}
 use Rattle.algebra.specs.Sum.{replace, replace_at, replace_other}
 use Rattle.algebra.specs.Matrix.{Row, Matrix, unit, unit_diagonal, unit_off}
 use Rattle.algebra.specs.Clearing.{less}

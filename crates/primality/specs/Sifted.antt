@@ -12,7 +12,8 @@ use Rattle.std.proofs.Math.Logic.{by_cases}
 use Rattle.std.specs.Int.{◌∣◌}
 use Rattle.std.proofs.Math.Nat.{dvd_trans, mod-eq-zero_of_dvd}
 use Rattle.std.proofs.Math.Decide.{ℕ_discrete, dec_lt}
-use Rattle.algebra.specs.Prime.{Prime, prime_mod_pos, prime_of_no_small_divisor, prime_or_small_divisor}
+use Rattle.algebra.specs.Prime.{Prime, prime_mod_pos, prime_of_no_small_divisor}
+use Rattle.algebra.proofs.Prime.{prime_or_small_divisor}
 use Rattle.divisors.specs.Found.{Found, OddDivisor}
 
 -- No prime from lo on and below hi, with a square of at most p, divides p.

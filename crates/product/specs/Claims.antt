@@ -7,9 +7,9 @@ use Rattle.std.proofs.Math.Path.{ap, ap₂, fun_ext}
 use Rattle.std.proofs.Common.{◌∙◌, le_of_lt}
 use Rattle.std.proofs.Math.Bool.{not}
 use Rattle.algebra.specs.Residue.{K, red}
-use Rattle.algebra.specs.Series.{Series}
+use Rattle.algebra.proofs.Series.{Series}
 use Rattle.algebra.specs.Matrix.{vmul_cong, mmul}
-use Rattle.algebra.specs.PolyMatrix.{entries as series_entries}
+use Rattle.algebra.proofs.PolyMatrix.{entries as series_entries}
 use Rattle.rules.specs.Claim.{Problem}
 use Rattle.rules.specs.Matrices.{order, matrix_P, matrix_F, product}
 use Rattle.rules.specs.Conditions.{some_below, low_fault, order_fault, first_place}

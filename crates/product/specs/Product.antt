@@ -9,8 +9,10 @@ use Rattle.std.specs.Prelude.{◌≡◌, List, ℕ, suc, ◌+◌, ◌-◌, ◌*�
 use Rattle.std.proofs.Common.{sym, ap, ap₂, ◌∙◌, add_assoc, mul-zero, zero-mul, arith}
 use Rattle.algebra.specs.Residue.{K, Residue, red, red_mul}
 use Rattle.algebra.specs.Sum.{sum_cong}
-use Rattle.algebra.specs.Series.{Series, convolve, convolve_sum}
-use Rattle.algebra.specs.Degree.{coefficient, coefficient_sum}
+use Rattle.algebra.specs.Series.{convolve, convolve_sum}
+use Rattle.algebra.proofs.Series.{Series}
+use Rattle.algebra.specs.Degree.{coefficient}
+use Rattle.algebra.proofs.Degree.{coefficient_sum}
 use Rattle.algebra.specs.Matrix.{vmul, mmul}
 use Rattle.rules.specs.Conditions.{sum_below}
 use Rattle.rules.specs.Sizes.{largest_prime, most_rows, most_order, most_length}

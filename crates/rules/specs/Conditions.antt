@@ -10,11 +10,11 @@ use Rattle.std.specs.Int.Signed.{le_z}
 use Rattle.algebra.specs.Residue.{K, Residue, red}
 use Rattle.algebra.specs.Integer.{Integers}
 use Rattle.algebra.specs.Sum.{sum}
-use Rattle.algebra.specs.Series.{Series}
+use Rattle.algebra.proofs.Series.{Series}
 use Rattle.algebra.specs.Matrix.{Row, Matrix, cons, beside, vmul}
 use Rattle.algebra.specs.Det.{det}
 use Rattle.algebra.specs.Degree.{coefficient}
-use Rattle.algebra.specs.PolyMatrix.{entries}
+use Rattle.algebra.proofs.PolyMatrix.{entries}
 use Rattle.rules.specs.Claim.{Problem}
 use Rattle.rules.specs.Matrices.{order, shift, at, matrix_P, matrix_C, product}
 

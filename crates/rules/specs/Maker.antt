@@ -13,9 +13,9 @@ use Rattle.std.proofs.Math.Option.{Option, none, some, get_or}
 use Rattle.std.specs.Int.Signed.{le_z}
 use Rattle.algebra.specs.Residue.{K, Residue, red}
 use Rattle.algebra.specs.Sum.{replace}
-use Rattle.algebra.specs.Series.{Series}
+use Rattle.algebra.proofs.Series.{Series}
 use Rattle.algebra.specs.Matrix.{Row, Matrix, cons, unit, vmul}
-use Rattle.algebra.specs.PolyMatrix.{entries}
+use Rattle.algebra.proofs.PolyMatrix.{entries}
 use Rattle.algebra.specs.Step.{next}
 use Rattle.rules.specs.Claim.{Problem, Answer}
 use Rattle.rules.specs.Matrices.{order, at, matrix_P, product}

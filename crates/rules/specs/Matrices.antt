@@ -8,10 +8,10 @@ use Rattle.std.proofs.Common.{ap}
 use Rattle.std.specs.Prelude.{List, [], ℕ, ℤ, pos, length, get_or}
 use Rattle.std.proofs.Math.ListN.{get_or-eq_default}
 use Rattle.algebra.specs.Residue.{K, Residue, red}
-use Rattle.algebra.specs.Series.{Series}
+use Rattle.algebra.proofs.Series.{Series}
 use Rattle.algebra.specs.Polynomial.{Poly}
 use Rattle.algebra.specs.Matrix.{Matrix, mmul}
-use Rattle.algebra.specs.PolyMatrix.{entries}
+use Rattle.algebra.proofs.PolyMatrix.{entries}
 use Rattle.rules.specs.Claim.{Problem}
 
 -- "Column j has order d_j, …

@@ -4,7 +4,7 @@ use lib.ListN.{get_or}
 use mathlib.Core.List.{List}
 use Prim.Native.Nat.{ℕ, ◌≤◌}
 use Rattle.algebra.specs.Residue.{K}
-use Rattle.algebra.specs.Series.{Series}
+use Rattle.algebra.proofs.Series.{Series}
 use Rattle.algebra.specs.Det.{det}
 use Rattle.rules.specs.Sizes.{most_rows, most_length}
 use Rattle.layout.specs.Flat.{cells}

@@ -8,19 +8,27 @@ use Prim.Native.Nat.{ℕ, ◌<◌}
 use Rattle.algebra.specs.Ring as Ring
 use Rattle.algebra.specs.Ring.{CommRing, Decides, Cancels, Nontrivial}
 use Rattle.algebra.specs.Solver.{◌⊞◌, ◌⊠◌, ⊟◌, ⓪, v0, v1, ring}
-use Rattle.algebra.specs.Series.{Series, constant}
-use Rattle.algebra.specs.Polynomial.{Poly, poly_constant, poly_mul, Series_cancels}
-use Rattle.algebra.specs.Evaluation.{Evaluates, evaluates_unique, evaluates_value, evaluates_constant}
-use Rattle.algebra.specs.Root.{lin, poly_quo, divide_root, root_of_multiple, cancel_lin}
-use Rattle.algebra.specs.Linears.{All, all_of, linears, poly_linears, joined, linears_joined, all_joined, linears_power, Splits, splits_ne_zero}
-use Rattle.algebra.specs.Linears.{factor_of_linears}
+use Rattle.algebra.specs.Series.{constant}
+use Rattle.algebra.proofs.Series.{Series}
+use Rattle.algebra.specs.Polynomial.{Poly, poly_constant}
+use Rattle.algebra.proofs.Polynomial.{poly_mul, Series_cancels}
+use Rattle.algebra.specs.Evaluation.{Evaluates, evaluates_value}
+use Rattle.algebra.proofs.Evaluation.{evaluates_unique, evaluates_constant}
+use Rattle.algebra.specs.Root.{lin}
+use Rattle.algebra.proofs.Root.{poly_quo, divide_root, root_of_multiple, cancel_lin}
+use Rattle.algebra.specs.Linears.{All, all_of, joined, all_joined}
+use Rattle.algebra.proofs.Linears.{linears, poly_linears, linears_joined, linears_power, Splits, splits_ne_zero}
+use Rattle.algebra.proofs.Linears.{factor_of_linears}
 use Rattle.algebra.specs.Matrix.{vmul, mmul, unit, vmul_cong, vmul_scale, vmul_add}
-use Rattle.algebra.specs.Det.{det, det_local, det_scalar}
-use Rattle.algebra.specs.ProductRule.{det_mul}
-use Rattle.algebra.specs.Adjugate.{kernel_zero}
-use Rattle.algebra.specs.PolyMatrix.{coordinates, entries, values, poly_vmul, poly_det, poly_unit, evaluates_vmul}
+use Rattle.algebra.specs.Det.{det, det_local}
+use Rattle.algebra.proofs.Det.{det_scalar}
+use Rattle.algebra.proofs.ProductRule.{det_mul}
+use Rattle.algebra.proofs.Adjugate.{kernel_zero}
+use Rattle.algebra.specs.PolyMatrix.{values}
+use Rattle.algebra.proofs.PolyMatrix.{coordinates, entries, poly_vmul, poly_det, poly_unit, evaluates_vmul}
 use Rattle.algebra.specs.Dependence.{Independent, combines_beside}
-use Rattle.algebra.specs.Generation.{IsRelation, Generated, Generates, Quotients, FullRank, product_quotients}
+use Rattle.algebra.specs.Generation.{FullRank}
+use Rattle.algebra.proofs.Generation.{IsRelation, Generated, Generates, Quotients, product_quotients}
 
 module _ (R : CommRing) where
   open R use {C, 𝟘}

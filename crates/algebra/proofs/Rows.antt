@@ -11,7 +11,7 @@ use Rattle.algebra.specs.Sum.{exchange, exchange_replace}
 use Rattle.algebra.specs.Matrix.{Row, Matrix, SameRow, cons}
 use Rattle.algebra.specs.Det.{minor, det}
 use Rattle.algebra.specs.Alternating.{alternating_front, alternating_twice}
-use Rattle.algebra.specs.ProductRule.{det_alternating}
+use Rattle.algebra.proofs.ProductRule.{det_alternating}
 
 module _ (R : CommRing) where
   open R use {C, 𝟘, ◌⊕◌, ◌⊗◌, ⊖◌, add_comm, add_zero, mul_assoc, mul_add}

@@ -14,13 +14,15 @@ use Rattle.std.proofs.Math.Decide.{dec_lt}
 use Rattle.algebra.specs.Ring as Ring
 use Rattle.algebra.specs.Ring.{CommRing}
 use Rattle.algebra.specs.Sum.{sum, sum_cong, sum_zero, sum_add}
-use Rattle.algebra.specs.Series.{Series, shift}
+use Rattle.algebra.specs.Series.{shift}
+use Rattle.algebra.proofs.Series.{Series}
 use Rattle.algebra.specs.Polynomial.{Below}
 use Rattle.algebra.specs.Matrix.{Row, Matrix, beside, unit, vmul, mmul, vmul_unit, unit_vmul, vmul_add, vmul_zero, vmul_assoc}
 use Rattle.algebra.specs.Dependence.{Combines, Independent, combines_beside}
-use Rattle.algebra.specs.OrderBasis.{Vanishes}
+use Rattle.algebra.proofs.OrderBasis.{Vanishes}
 use Rattle.algebra.specs.Clearing.{vmul_neg, less}
-use Rattle.algebra.specs.Step.{once, cleared, next, residuals, Choice, next_product}
+use Rattle.algebra.specs.Step.{once, cleared, next, Choice}
+use Rattle.algebra.proofs.Step.{residuals, next_product}
 
 -- A step raises by 1 at most.
 once_most : (b : Bool) → once b ≤ 1

@@ -14,18 +14,25 @@ use Rattle.algebra.specs.Ring as Ring
 use Rattle.algebra.specs.Ring.{CommRing, RingRelation, Decides, Cancels, Nontrivial, power}
 use Rattle.algebra.specs.Solver.{v0, v1, v2, ⓪, ◌⊞◌, ⊟◌, ring}
 use Rattle.algebra.specs.Integer.{Integers, More}
-use Rattle.algebra.specs.Series.{Series, constant, constant_mul, constant_zero, constant_add, constant_product, constant_neg}
-use Rattle.algebra.specs.Series.{shift, X, shift_suc, shift_power, shift_below, shift_above}
+use Rattle.algebra.specs.Series.{constant}
+use Rattle.algebra.proofs.Series.{Series, constant_mul, constant_zero, constant_add, constant_product, constant_neg}
+use Rattle.algebra.specs.Series.{shift, X, shift_below, shift_above}
+use Rattle.algebra.proofs.Series.{shift_suc, shift_power}
 use Rattle.algebra.specs.Polynomial.{below_X}
 use Rattle.algebra.specs.Matrix.{Matrix, unit, unit_diagonal, unit_off, vmul, mmul, vmul_cong, unit_related}
-use Rattle.algebra.specs.Det.{det, det_local, det_related}
-use Rattle.algebra.specs.ProductRule.{det_mul}
-use Rattle.algebra.specs.Degree.{AtMost, coefficient, Lead, leading, EntriesAtMost, at_most_zeros, coefficient_zeros, at_most_constant}
-use Rattle.algebra.specs.Degree.{coefficient_constant, at_most_add, coefficient_add, at_most_neg, coefficient_neg, at_most_mono, lead_at, lead_mul}
-use Rattle.algebra.specs.Predictable.{row_coefficient, vmul_degree}
+use Rattle.algebra.specs.Det.{det, det_local}
+use Rattle.algebra.proofs.Det.{det_related}
+use Rattle.algebra.proofs.ProductRule.{det_mul}
+use Rattle.algebra.specs.Degree.{AtMost, coefficient, Lead, at_most_zeros, coefficient_zeros, at_most_constant}
+use Rattle.algebra.proofs.Degree.{leading, EntriesAtMost}
+use Rattle.algebra.specs.Degree.{coefficient_constant, lead_at}
+use Rattle.algebra.proofs.Degree.{at_most_add, coefficient_add, at_most_neg, coefficient_neg, at_most_mono, lead_mul}
+use Rattle.algebra.proofs.Predictable.{row_coefficient, vmul_degree}
 use Rattle.algebra.specs.OrderBasis.{Monomial}
-use Rattle.algebra.specs.Clearing.{factors, det_factors, Clears, less, det_less}
-use Rattle.algebra.specs.Step.{once, cleared, next, lessₛ, cleared_is}
+use Rattle.algebra.specs.Clearing.{factors, det_factors, Clears, less}
+use Rattle.algebra.proofs.Clearing.{det_less}
+use Rattle.algebra.specs.Step.{once, cleared, next}
+use Rattle.algebra.proofs.Step.{lessₛ, cleared_is}
 
 module _ (R : CommRing) where
   open R use {C, 𝟘, 𝟙, ◌⊕◌, ◌⊗◌}

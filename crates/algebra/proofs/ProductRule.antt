@@ -9,7 +9,8 @@ use Rattle.algebra.specs.Ring as Ring
 use Rattle.algebra.specs.Ring.{CommRing, sign}
 use Rattle.algebra.specs.Sum.{skip, skip_below, sum_cong, sum_mul}
 use Rattle.algebra.specs.Matrix.{Row, Matrix, SameRow, cons, cons_eta, unit, vmul, mmul, unit_vmul, vmul_cong, vmul_add, vmul_scale}
-use Rattle.algebra.specs.Det.{minor, det, det_local, det_first_rows}
+use Rattle.algebra.specs.Det.{minor, det, det_local}
+use Rattle.algebra.proofs.Det.{det_first_rows}
 use Rattle.algebra.specs.Alternating as Alt
 use Rattle.algebra.specs.Alternating.{Linear, LinearMap, FirstTwo, Alternating}
 

@@ -15,13 +15,15 @@ use Rattle.algebra.specs.Ring.{CommRing, Cancels, Decides}
 use Rattle.algebra.specs.Solver.{v0, v1, v2, ◌⊞◌, ⊟◌, ring}
 use Rattle.algebra.specs.Integer.{Integers, More}
 use Rattle.algebra.specs.Sum.{all_or_one, zeros_or_not}
-use Rattle.algebra.specs.Series.{Series}
-use Rattle.algebra.specs.Polynomial.{Below, Poly, below_mono, degree}
+use Rattle.algebra.proofs.Series.{Series}
+use Rattle.algebra.specs.Polynomial.{Below, Poly, below_mono}
+use Rattle.algebra.proofs.Polynomial.{degree}
 use Rattle.algebra.specs.Polynomial.{maximum, le_maximum}
 use Rattle.algebra.specs.Matrix.{Row, Matrix, vmul, vmul_zero}
 use Rattle.algebra.specs.Det.{det}
-use Rattle.algebra.specs.Adjugate.{kernel_zero}
-use Rattle.algebra.specs.Degree.{AtMost, coefficient, Lead, leading, EntriesAtMost, at_most_suc_iff, at_most_mono, at_most_iff, lead_at, lead_mul, lead_sum}
+use Rattle.algebra.proofs.Adjugate.{kernel_zero}
+use Rattle.algebra.specs.Degree.{AtMost, coefficient, Lead, at_most_suc_iff, at_most_iff, lead_at}
+use Rattle.algebra.proofs.Degree.{leading, EntriesAtMost, at_most_mono, lead_mul, lead_sum}
 use Rattle.algebra.specs.Degree.{coefficient_ne_zero}
 
 sub_add : (a b c : ℤ) → a -ℤ b +ℤ c ≡ a +ℤ c -ℤ b
