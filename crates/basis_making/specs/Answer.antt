@@ -3,9 +3,9 @@
 --   lengths_short, basis_sound         what the code asks of the arrays of P
 --   rows_are, basis_are      P is what they stand for
 --   answer_put               the records of P and the evidence of the cut problem are the answer
-use Rattle.std.specs.Prelude.{◌≡◌, refl, List, [], ◌++◌, ℕ, ◌+◌, ◌*◌, ◌/◌, ◌%◌, ◌≤◌, ◌<◌, length, get_or}
+use Rattle.std.specs.Prelude.{◌≡◌, List, [], ℕ, ◌+◌, ◌*◌, ◌/◌, ◌%◌, ◌≤◌, ◌<◌, length, get_or}
 use Rattle.std.proofs.Math.Path.{sym}
-use Rattle.std.proofs.Common.{ap, ap₂, subst, ◌∙◌, lt_of_lt_of_le, mul-le-mul, mul-le-mul_right, arith}
+use Rattle.std.proofs.Common.{subst, ◌∙◌, lt_of_lt_of_le, mul-le-mul, mul-le-mul_right, arith}
 use Rattle.std.proofs.Math.Logic.{by_cases}
 use Rattle.std.proofs.Math.Decide.{dec_lt}
 use Rattle.std.proofs.Math.ListN.{get_or-eq_default}

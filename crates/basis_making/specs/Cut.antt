@@ -9,15 +9,14 @@ use Rattle.std.proofs.Math.Path.{ap, ap₂, fun_ext}
 use Rattle.std.proofs.Math.Logic.{by_cases}
 use Rattle.std.proofs.Math.Bool.{true, false, cond}
 use mathlib.Core.List.{List, [], ◌∷◌}
-use Prim.Native.Nat.{ℕ, zero, suc, min, max, ◌+◌, ◌-◌, ◌*◌, ◌%◌, ◌≤◌, ◌<◌, zero-le, suc-le-suc}
+use Prim.Native.Nat.{ℕ, zero, suc, min, max, ◌+◌, ◌-◌, ◌%◌, ◌≤◌, ◌<◌, zero-le, suc-le-suc}
 use Rattle.std.proofs.Math.Nat.{le_of_lt, lt_of_lt_of_le}
 use Rattle.std.proofs.Math.Decide.{ℕ_discrete, dec_lt}
 use Rattle.std.proofs.Math.ListN.{get_or}
 use Rattle.rules.specs.Sizes.{most_rows, most_order}
-use Rattle.rules.specs.Claim.{Problem}
 use Rattle.rules.specs.Matrices.{order, at}
 use Rattle.rules.specs.Conditions.{max_below}
-use Rattle.rules.specs.Table.{table, get_or_table, length_table, table_all, table_cong, table_ext}
+use Rattle.rules.specs.Table.{table, get_or_table, table_all, table_cong, table_ext}
 use Rattle.rules.specs.Maker.{steps_done, cut_problem}
 use Rattle.layout.specs.Flat.{column_coefficients, column_place, column_cell, column_cell_at, column_cell_past}
 use Rattle.layout.specs.Holds.{Each}

@@ -10,10 +10,9 @@ use Rattle.rules.specs.Claim.{Problem}
 use Rattle.rules.specs.Files.{read_problem}
 use Rattle.rules.specs.Writer.{write_answer}
 use Rattle.rules.specs.Maker.{steps_done, answer_after, make_answer}
-use Rattle.rules.specs.MakeBasis.{basis_unread, basis_no_room, basis_made, MadeBasis, made_file, make_basis}
+use Rattle.rules.specs.MakeBasis.{basis_unread, basis_no_room, basis_made, made_file, make_basis}
 use Rattle.laws.specs.MakeBasisLaws.{basis_unread_case, basis_no_room_case, basis_made_case}
 use Rattle.verdict.specs.Meant.{refusal_of}
-use Rattle.claim.specs.declared.Head.{Head}
 use Rattle.claim.specs.Claims.{problem_of}
 use Rattle.problem_file.specs.declared.ReadProblem.{ReadProblem}
 use Rattle.problem_file.specs.Values.{problem_value}

@@ -3,15 +3,14 @@
 --   numbers, entry, row, rows          the coefficients of an entry, and the entries, as lists
 --   write_more               what is written of a table grows by its last member
 --   NumbersPut, RowPut, RowsPut        the first numbers, entries, rows are put: none, one more
-use Rattle.std.specs.Prelude.{◌≡◌, refl, List, [], ◌∷◌, ◌++◌, ℕ, zero, suc, ◌+◌, ◌*◌, ◌≤◌, ◌<◌, length, get_or}
-use Rattle.std.proofs.Common.{sym, ap, ap₂, subst, ◌∙◌, append-nil, append_assoc, zero-le, add-zero, zero-add, mul-le-mul_right, arith, add-one, length-append}
-use Rattle.rules.specs.Sizes.{most_rows, most_length}
+use Rattle.std.specs.Prelude.{◌≡◌, List, [], ◌∷◌, ◌++◌, ℕ, zero, suc, ◌+◌, ◌*◌, ◌≤◌, ◌<◌, length}
+use Rattle.std.proofs.Common.{sym, ap, subst, ◌∙◌, append-nil, append_assoc, zero-le, add-zero, zero-add, mul-le-mul_right, arith, add-one, length-append}
+use Rattle.rules.specs.Sizes.{most_length}
 use Rattle.rules.specs.RecordBytes.{entry_bytes}
 use Rattle.rules.specs.Files.{PE_mark}
-use Rattle.rules.specs.Writer.{bytes, write_each, write_all, write_PE, write_basis}
+use Rattle.rules.specs.Writer.{bytes, write_each, write_all, write_PE}
 use Rattle.rules.specs.Table.{table, table_last, length_table}
 use Rattle.laws.specs.WriterLaws.{length_write_PE}
-use Rattle.laws.specs.ByteNumbers.{length_bytes}
 use Rattle.writer.specs.Appended.{Appended, appended_nothing, appended_both}
 use Rattle.layout.specs.Flat.{square_place, length_at}
 use Rattle.layout.specs.Holds.{Short}
