@@ -5,7 +5,7 @@
 --   Row p d f base           the d coefficients of an entry are below p, and what follows them is 0
 --   Rows, Column, Columns    the same of a column's rows, of a column, and of F
 --   Canonical head f         all of it
-use Rattle.std.specs.Prelude.{◌≡◌, Bool, true, false, List, ℕ, ◌+◌, ◌*◌, ◌≤◌, ◌<◌, ltb, ℤ, pos, nat_abs, get_or}
+use Rattle.std.specs.Prelude.{◌≡◌, Bool, true, false, List, ℕ, ◌+◌, ◌≤◌, ◌<◌, ltb, ℤ, pos, nat_abs, get_or}
 use Rattle.algebra.specs.Prime.{Prime}
 use Rattle.rules.specs.Sizes.{largest_prime, most_rows, most_order, most_shift}
 use Rattle.layout.specs.Flat.{shift_at, column_place, column_coefficients}

@@ -2,7 +2,7 @@
 --   Counted f from limit over x      `over` of the numbers from one place to another are not below the limit
 --   counted_none, counted_more, counted_all        before the first, after one more, after the last
 --   Gathered f from bits x, gathered_none, gathered_more, gathered_all     the same of the loop that puts bits together
-use Rattle.std.specs.Prelude.{◌≡◌, Bool, true, false, cond, List, ℕ, ◌+◌, ◌≤◌, ◌<◌, ltb, eqb, get_or}
+use Rattle.std.specs.Prelude.{◌≡◌, Bool, cond, List, ℕ, ◌+◌, ◌≤◌, ◌<◌, ltb, eqb, get_or}
 use Rattle.std.proofs.Common.{sym, ap, subst, ◌∙◌, arith, lt-ltb, le-ltb, eqb-true}
 use Rattle.std.proofs.Math.Logic.{by_cases}
 use Rattle.std.proofs.Math.Decide.{dec_lt, ℕ_discrete}

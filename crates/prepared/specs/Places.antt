@@ -2,16 +2,13 @@
 --   row_of, column_of, power_of, place-of        the row, the column and the power of a place
 --   Cells p m n orders f     each coefficient that there is is below p, and all else is 0
 --   cells_of_columns, columns_of_cells           that is what the runs say
-use Rattle.std.specs.Prelude.{◌≡◌, ◌⊎◌, List, ℕ, ◌+◌, ◌*◌, ◌-◌, ◌/◌, ◌%◌, ◌≤◌, ◌<◌}
-use Rattle.std.proofs.Common.{ap, inl, inr}
+use Rattle.std.specs.Prelude.{◌≡◌, List, ℕ, ◌+◌, ◌-◌, ◌/◌, ◌%◌, ◌≤◌, ◌<◌}
 use Rattle.std.proofs.Math.Path.{subst}
-use Rattle.std.proofs.Math.Logic.{by_cases}
-use Rattle.std.proofs.Math.Decide.{dec_lt}
 use native.Mathlib.Omega.{arith}
 use Rattle.std.proofs.Math.ListN.{get_or}
 use Rattle.rules.specs.Sizes.{most_rows, most_order}
 use Rattle.layout.specs.Flat.{column_place, column_coefficients}
-use Rattle.prepared.specs.Canonical.{Below, Row, Column, Columns}
+use Rattle.prepared.specs.Canonical.{Below, Columns}
 
 abbrev row_of : ℕ → ℕ
 row_of x = x / 16 % 4

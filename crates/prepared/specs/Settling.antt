@@ -1,7 +1,7 @@
 -- Answers that settle a statement, made.
 --   settled_yes, settled_no  the two answers
 --   settled_by               of a statement that says the same
-use Rattle.std.specs.Prelude.{◌≡◌, Bool, true, false}
+use Rattle.std.specs.Prelude.{Bool, true, false}
 use Rattle.std.proofs.Common.{true≢false}
 use Rattle.std.proofs.lemmas.Bool.{false≢true}
 use Rattle.layout.specs.Settles.{Settles}

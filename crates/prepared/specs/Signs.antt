@@ -1,9 +1,8 @@
 -- A signed number between two others, as the code tests it.
 --   Between low high z       z is neither below the one nor above the other
 --   between_shifts, between_zero       that makes a shift of z, or 0
-use Rattle.std.specs.Prelude.{◌≡◌, refl, ◌↔◌, true, false, ℕ, ◌≤◌, ℤ, pos, negsuc, nat_abs}
-use Rattle.std.proofs.Common.{ap, subst, true≢false, arith, ltb-true, ltb-false, leb-true, le-leb, le-ltb}
-use Rattle.std.proofs.lemmas.Bool.{false≢true}
+use Rattle.std.specs.Prelude.{◌≡◌, refl, ◌↔◌, true, false, ◌≤◌, ℤ, pos, negsuc, nat_abs}
+use Rattle.std.proofs.Common.{ap, true≢false, arith, ltb-false, leb-true, le-leb, le-ltb}
 use Rattle.std.specs.Int.Signed.{lt_z, le_z}
 use Rattle.rules.specs.Sizes.{most_shift}
 

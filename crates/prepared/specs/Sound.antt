@@ -1,7 +1,7 @@
 -- Canonical arrays, of the lengths that their types say, are sound.
 --   canonical_head, canonical_columns
-use Rattle.std.specs.Prelude.{◌≡◌, Bool, List, ℕ, ◌≤◌, ◌<◌, ℤ, pos, nat_abs, length, get_or}
-use Rattle.std.proofs.Common.{ap, subst, ◌∙◌, arith, lt-ltb, le-ltb}
+use Rattle.std.specs.Prelude.{◌≡◌, List, ℕ, ◌≤◌, ◌<◌, pos, nat_abs, length, get_or}
+use Rattle.std.proofs.Common.{ap, subst, ◌∙◌, arith}
 use Rattle.std.proofs.Math.Logic.{by_cases}
 use Rattle.std.proofs.Math.Decide.{dec_lt}
 use Rattle.std.proofs.Math.ListN.{get_or-eq_default}
@@ -9,7 +9,7 @@ use Rattle.rules.specs.Sizes.{most_rows, most_order, most_shift}
 use Rattle.layout.specs.Flat.{shift_at, column_place, column_coefficients, column_cell_at, column_cell_past}
 use Rattle.claim.specs.declared.Head.{Head}
 use Rattle.claim.specs.Sound.{SoundHead, SoundColumns}
-use Rattle.prepared.specs.Canonical.{Order, Shift, Canonical}
+use Rattle.prepared.specs.Canonical.{Canonical}
 use Rattle.prepared.specs.Places.{Stands, stands, Cells}
 use Rattle.prepared.specs.Written.{cells, order_used, order_unused, shift_used, shift_unused}
 
