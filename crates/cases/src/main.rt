@@ -8,7 +8,11 @@
 ghost use Rattle.std.specs.Prelude.{◌≡◌, ◌+◌, ◌*◌, ◌≤◌, ◌<◌, length};
 ghost use Rattle.cases.specs.Limits.{longest, most_lent, chunk, most_digits};
 
-use libc::STDOUT_FILENO;
+use std::env::Env;
+use std::fs::File;
+use std::io;
+use std::io::{BufWriter, Read, Write};
+use std::rt::Files;
 use verdict::{Four, numbers, reply_numbers};
 use writer::{put_number, put_text};
 
@@ -17,6 +21,9 @@ const LONGEST: usize = 65536;
 
 // The most bytes lent.
 const MOST_LENT: usize = 4096;
+
+// Longer than any name that the system takes.
+const ARGUMENT_ROOM: usize = 4096;
 
 // Room for the words and numbers that a line starts with.
 const HEAD: usize = 128;
@@ -52,23 +59,24 @@ fn spell(bytes: &[u8], out: &mut [u8])
 }
 
 // Writes at most CHUNK bytes in hex.
-fn write_chunk(bytes: &[u8])
+fn write_chunk(to: &mut impl Write, bytes: &[u8]) -> io::Result<()>
     requires { length bytes.now ≤ chunk }
 {
-    let mut text = io::buffer();
+    let mut text = [0u8; 2 * CHUNK];
     spell(bytes, &mut text);
     let n = bytes.len() * 2;
-    io::write_all(STDOUT_FILENO, &text[..n]);
+    to.write_all(&text[..n])
 }
 
 // Writes all of `bytes` in hex.
-fn write_hex(bytes: &[u8]) {
+fn write_hex(to: &mut impl Write, bytes: &[u8]) -> io::Result<()> {
     let mut at = 0;
     while at < bytes.len() {
         let end = at + least(bytes.len() - at, CHUNK);
-        write_chunk(&bytes[at..end]);
+        write_chunk(to, &bytes[at..end])?;
         at = end;
     }
+    Ok(())
 }
 
 // Puts a space and the decimal digits of `n` at `at` and gives the place after them.
@@ -92,47 +100,51 @@ fn put_four(out: &mut [u8], at: usize, v: Four) -> usize
 }
 
 // Writes a line: the first `end` bytes of `head`, and after a space `bytes` in hex, or nothing more where there are none.
-fn write_line(head: &mut [u8], end: usize, bytes: &[u8])
+fn write_line(to: &mut impl Write, head: &mut [u8], end: usize, bytes: &[u8]) -> io::Result<()>
     requires { end < length head.old }
 {
     if bytes.len() == 0 {
         let n = put_text(head, end, b"\n");
-        io::write_all(STDOUT_FILENO, &head[..n]);
-        return;
+        return to.write_all(&head[..n]);
     }
     let n = put_text(head, end, b" ");
-    io::write_all(STDOUT_FILENO, &head[..n]);
-    write_hex(bytes);
-    io::write_all(STDOUT_FILENO, b"\n");
+    to.write_all(&head[..n])?;
+    write_hex(to, bytes)?;
+    to.write_all(b"\n")
 }
 
 // The line that `judge` prints.
-fn write_verdict(problem: &[u8], answer: &[u8]) {
+fn write_verdict(to: &mut impl Write, problem: &[u8], answer: &[u8]) -> io::Result<()> {
     let mut space = [0u8; line::ROOM];
     let v = numbers(judging::judge_files(problem, answer));
     let end = line::line(v, &mut space);
-    io::write_all(STDOUT_FILENO, &space[..end]);
+    to.write_all(&space[..end])
 }
 
 // The line for the part that the verdict points at.
-fn write_part(part: &[u8])
+fn write_part(to: &mut impl Write, part: &[u8]) -> io::Result<()>
     requires { length part.now ≤ longest }
 {
     let mut space = [0u8; HEAD];
     let head: &mut [u8] = &mut space;
     let word = put_text(head, 0, b"part");
     let end = put_spaced(head, word, part.len() as u32);
-    write_line(head, end, part);
+    write_line(to, head, end, part)
 }
 
 // The line for the evidence that is made in the bytes lent.
-fn write_evidence(problem: &[u8], answer: &[u8], lent: &mut [u8]) {
+fn write_evidence(
+    to: &mut impl Write,
+    problem: &[u8],
+    answer: &[u8],
+    lent: &mut [u8],
+) -> io::Result<()> {
     let v = reply_numbers(making::evidence_files(problem, answer, lent));
     let mut space = [0u8; HEAD];
     let head: &mut [u8] = &mut space;
     let word = put_text(head, 0, b"evidence");
     let end = put_four(head, word, v);
-    write_line(head, end, lent);
+    write_line(to, head, end, lent)
 }
 
 // The bytes to lend, each 170.
@@ -143,14 +155,19 @@ fn marked() -> [u8; MOST_LENT]
 }
 
 // The three lines of a case.
-fn write_case<'a>(problem: &'a [u8], answer: &'a [u8], lent: usize)
+fn write_case<'a>(
+    to: &mut impl Write,
+    problem: &'a [u8],
+    answer: &'a [u8],
+    lent: usize,
+) -> io::Result<()>
     requires problem_len_bound { (length problem.now ≤ longest) × (length answer.now ≤ longest) }
     requires lent_le_most_lent { lent ≤ most_lent }
 {
-    write_verdict(problem, answer);
-    write_part(part::pointed_at(problem, answer));
+    write_verdict(to, problem, answer)?;
+    write_part(to, part::pointed_at(problem, answer))?;
     let mut space = marked();
-    write_evidence(problem, answer, &mut space[..lent]);
+    write_evidence(to, problem, answer, &mut space[..lent])
 }
 
 // A byte as a number.
@@ -170,105 +187,129 @@ fn number(bytes: &[u8], at: usize) -> usize
 }
 
 // Reads the next `out.len()` bytes of the bundle, and answers whether they are all there.
-fn fill(fd: i32, out: &mut [u8]) -> bool {
-    io::read_full(fd, out) == out.len()
+fn fill(from: &mut impl Read, out: &mut [u8]) -> bool {
+    let mut done = 0;
+    while done < out.len() {
+        match from.read(&mut out[done..]) {
+            Ok(0) => return false,
+            Ok(n) => done += n,
+            Err(_) => return false,
+        }
+    }
+    true
 }
 
 // Runs a case whose three numbers are given, and answers whether its lengths are allowed and its files are all there.
 fn run_files(
-    fd: i32,
+    from: &mut impl Read,
+    to: &mut impl Write,
     problem: &mut [u8],
     answer: &mut [u8],
     m: usize,
     n: usize,
     lent: usize,
-) -> bool
+) -> io::Result<bool>
     requires { (longest ≤ length problem.old) × (longest ≤ length answer.old) }
 {
     if m > LONGEST {
-        return false;
+        return Ok(false);
     }
     if n > LONGEST {
-        return false;
+        return Ok(false);
     }
     if lent > MOST_LENT {
-        return false;
+        return Ok(false);
     }
-    if !fill(fd, &mut problem[..m]) {
-        return false;
+    if !fill(from, &mut problem[..m]) {
+        return Ok(false);
     }
-    if !fill(fd, &mut answer[..n]) {
-        return false;
+    if !fill(from, &mut answer[..n]) {
+        return Ok(false);
     }
-    write_case(&problem[..m], &answer[..n], lent);
-    true
+    write_case(to, &problem[..m], &answer[..n], lent)?;
+    Ok(true)
 }
 
 // Runs the next case, and answers whether it is whole and allowed.
-fn run_case(fd: i32, problem: &mut [u8], answer: &mut [u8]) -> bool
+fn run_case(
+    from: &mut impl Read,
+    to: &mut impl Write,
+    problem: &mut [u8],
+    answer: &mut [u8],
+) -> io::Result<bool>
     requires { (longest ≤ length problem.old) × (longest ≤ length answer.old) }
 {
     let mut space = [0u8; 12];
     let numbers: &mut [u8] = &mut space;
-    if !fill(fd, numbers) {
-        return false;
+    if !fill(from, numbers) {
+        return Ok(false);
     }
     let m = number(numbers, 0);
     let n = number(numbers, 4);
     let lent = number(numbers, 8);
-    run_files(fd, problem, answer, m, n, lent)
+    run_files(from, to, problem, answer, m, n, lent)
 }
 
 // Runs the next `count` cases, and answers whether they are all whole and allowed.
-fn run_cases(fd: i32, problem: &mut [u8], answer: &mut [u8], count: usize) -> bool
+fn run_cases(
+    from: &mut impl Read,
+    to: &mut impl Write,
+    problem: &mut [u8],
+    answer: &mut [u8],
+    count: usize,
+) -> io::Result<bool>
     requires { (longest ≤ length problem.old) × (longest ≤ length answer.old) }
 {
     let mut i = 0;
     while i < count {
-        if !run_case(fd, problem, answer) {
-            return false;
+        if !run_case(from, to, problem, answer)? {
+            return Ok(false);
         }
         i += 1;
     }
-    true
+    Ok(true)
 }
 
 // Runs the bundle that is open, and answers whether it is whole and allowed.
-fn run_bundle(fd: i32) -> bool {
+fn run_bundle(from: &mut impl Read, to: &mut impl Write) -> io::Result<bool> {
     let mut space = [0u8; 4];
     let numbers: &mut [u8] = &mut space;
-    if !fill(fd, numbers) {
-        return false;
+    if !fill(from, numbers) {
+        return Ok(false);
     }
     let count = number(numbers, 0);
-    let mut problem = io::large_buffer();
-    let mut answer = io::large_buffer();
-    run_cases(fd, &mut problem, &mut answer, count)
+    let mut problem = [0u8; LONGEST];
+    let mut answer = [0u8; LONGEST];
+    run_cases(from, to, &mut problem, &mut answer, count)
 }
 
-// Opens the file that the first argument names, and answers -1 where it can't be opened.
-fn open_bundle() -> i32 {
-    let mut name = io::buffer();
-    let k = os::arg(1, &mut name);
-    if os::errno() != 0 {
-        return -1;
+// Opens the file that the first argument names, and answers `None` where it can't be opened. A name that is no text counts as one of no file.
+fn open_bundle<R: Env + Files>(rt: &R) -> Option<R::File> {
+    let mut name = [0u8; ARGUMENT_ROOM];
+    let Ok(k) = rt.arg(1, &mut name) else {
+        return None;
+    };
+    let Ok(text) = str::from_utf8(&name[..k]) else {
+        return None;
+    };
+    match File::open(rt, text) {
+        Ok(file) => Some(file),
+        Err(_) => None,
     }
-    os::open_read(&name[..k])
 }
 
 // Runs the bundle that the first argument names, and answers whether it can be opened, is whole and is allowed.
-fn run() -> bool {
-    let fd = open_bundle();
-    if fd < 0 {
-        return false;
+fn run(rt: &(impl Env + Files), to: &mut impl Write) -> io::Result<bool> {
+    match open_bundle(rt) {
+        Some(mut bundle) => run_bundle(&mut bundle, to),
+        None => Ok(false),
     }
-    let whole = run_bundle(fd);
-    libc::close(fd);
-    whole
 }
 
-fn main() {
-    if !run() {
-        io::write_all(STDOUT_FILENO, b"bad bundle\n");
+fn main(rt: HostRuntime) -> io::Result<()> {
+    let mut to = BufWriter::new(rt.alloc(), io::writer(&rt))?;
+    if !run(&rt, &mut to)? {
+        to.write_all(b"bad bundle\n")?;
     }
+    to.flush()
 }

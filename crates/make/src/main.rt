@@ -13,10 +13,17 @@ ghost use Rattle.make.specs.Made.{made_line};
 
 use basis_making::{basis_file, basis_numbers};
 use layout::READ_LIMIT;
-use libc::STDOUT_FILENO;
 use line::{ROOM, line, nofile};
+use std::env::{Env, FillError};
+use std::fs::{File, OpenFile};
+use std::io;
+use std::io::{Read, Write};
+use std::rt::Files;
 use verdict::Four;
 use writer::{put_number, put_text};
+
+// Longer than any name that the system takes.
+const ARGUMENT_ROOM: usize = 4096;
 
 // The largest number of steps that can be asked for.
 const MOST_STEPS: u64 = 4_294_967_295;
@@ -42,28 +49,53 @@ fn room() -> [u8; READ_LIMIT]
     [0; READ_LIMIT]
 }
 
-// Reads the file that argument `i` names into `out`, as far as there is room.
-fn load(i: usize, out: &mut [u8]) -> Loaded
+// Reads on until `out` is full, the file ends or a read fails, and gives how many bytes there are.
+fn read_on(file: &mut impl Read, out: &mut [u8]) -> usize
+    ensures { result ≤ length out.old }
+{
+    let mut done = 0;
+    while done < out.len() {
+        match file.read(&mut out[done..]) {
+            Ok(0) => break,
+            Ok(n) => done += n,
+            Err(_) => break,
+        }
+    }
+    done
+}
+
+// Reads the file into `out`, as far as there is room. It counts as missing if its first read fails.
+fn read_file(file: &mut impl Read, out: &mut [u8]) -> Loaded
     ensures { Within (length out.old) result }
 {
-    let mut name = io::buffer();
-    let k = os::arg(i, &mut name);
-    if os::errno() != 0 {
-        return Loaded::Missing;
+    match file.read(out) {
+        Ok(n) => Loaded::Bytes(n + read_on(file, &mut out[n..])),
+        Err(_) => Loaded::Missing,
     }
-    let fd = os::open_read(&name[..k]);
-    if fd < 0 {
-        return Loaded::Missing;
+}
+
+// Reads the file that has this name into `out`, as far as there is room.
+fn open_and_read(rt: &impl Files, name: &str, out: &mut [u8]) -> Loaded
+    ensures { Within (length out.old) result }
+{
+    match File::open(rt, name) {
+        Ok(mut file) => read_file(&mut file, out),
+        Err(_) => Loaded::Missing,
     }
-    let first = libc::read(fd, out);
-    if first < 0 {
-        libc::close(fd);
+}
+
+// Reads the file that argument `i` names into `out`, as far as there is room. A name that is no text counts as one of no file.
+fn load(rt: &(impl Env + Files), i: usize, out: &mut [u8]) -> Loaded
+    ensures { Within (length out.old) result }
+{
+    let mut name = [0u8; ARGUMENT_ROOM];
+    let Ok(k) = rt.arg(i, &mut name) else {
         return Loaded::Missing;
+    };
+    match str::from_utf8(&name[..k]) {
+        Ok(text) => open_and_read(rt, text, out),
+        Err(_) => Loaded::Missing,
     }
-    let n = io::count(first, out);
-    let more = io::read_full(fd, &mut out[n..]);
-    libc::close(fd);
-    Loaded::Bytes(n + more)
 }
 
 // The number that decimal digits stand for: at least one digit, and nothing else.
@@ -90,14 +122,22 @@ fn read_steps(text: &[u8]) -> Steps {
     Steps::Count(n as u32)
 }
 
-// The number of steps that the second argument gives.
-fn asked() -> Steps {
-    let mut text = io::buffer();
-    let k = os::arg(2, &mut text);
-    if os::errno() != 0 {
-        return Steps::Bad;
+// Whether there is an argument `i`. No byte of it is wanted, so that one which is not empty is too long.
+fn is_given(rt: &impl Env, i: usize) -> bool {
+    match rt.arg(i, &mut []) {
+        Ok(_) => true,
+        Err(FillError::TooLong) => true,
+        Err(FillError::NotPresent) => false,
     }
-    read_steps(&text[..k])
+}
+
+// The number of steps that the second argument gives.
+fn asked(rt: &impl Env) -> Steps {
+    let mut text = [0u8; ARGUMENT_ROOM];
+    match rt.arg(2, &mut text) {
+        Ok(k) => read_steps(&text[..k]),
+        Err(_) => Steps::Bad,
+    }
 }
 
 // Makes the answer in `file`, and gives the four numbers. After a success they have no more bytes than there are.
@@ -109,22 +149,32 @@ fn made(problem: &[u8], steps: u32, file: &mut [u8]) -> Four
     basis_numbers(basis_file(problem, steps, file))
 }
 
+// Whether a file on disk has taken what was written to it, which closing it does not tell. Nothing more is asked of a pipe or a device.
+fn is_kept(file: &impl OpenFile) -> bool {
+    match file.metadata() {
+        Ok(found) => !found.is_file() || file.sync_all().is_ok(),
+        Err(_) => false,
+    }
+}
+
+// Writes all of `bytes` to the file that has this name, and answers whether that was done.
+fn write_file(rt: &impl Files, name: &str, bytes: &[u8]) -> bool {
+    match File::create(rt, name) {
+        Ok(mut file) => file.write_all(bytes).is_ok() && is_kept(&file),
+        Err(_) => false,
+    }
+}
+
 // Writes all of `file` to the file that the third argument names, and answers whether that was done.
-fn save(file: &[u8]) -> bool {
-    let mut name = io::buffer();
-    let k = os::arg(3, &mut name);
-    if os::errno() != 0 {
+fn save(rt: &(impl Env + Files), file: &[u8]) -> bool {
+    let mut name = [0u8; ARGUMENT_ROOM];
+    let Ok(k) = rt.arg(3, &mut name) else {
         return false;
+    };
+    match str::from_utf8(&name[..k]) {
+        Ok(text) => write_file(rt, text, file),
+        Err(_) => false,
     }
-    let fd = os::open_overwrite(&name[..k]);
-    if fd < 0 {
-        return false;
-    }
-    let whole = io::write_all(fd, file);
-    if libc::close(fd) < 0 {
-        return false;
-    }
-    whole
 }
 
 // Puts the line for an answer that is made, with the steps done and the bytes, at the front of `out` and gives its length.
@@ -140,63 +190,61 @@ fn put_made(v: Four, out: &mut [u8]) -> usize
 }
 
 // Prints that the answer is made.
-fn say_made(v: Four) {
+fn say_made(rt: &impl Print, v: Four) -> io::Result<()> {
     let mut text = [0u8; ROOM];
     let end = put_made(v, &mut text);
-    io::write_all(STDOUT_FILENO, &text[..end]);
+    io::writer(rt).write_all(&text[..end])
 }
 
 // Prints the refusal.
-fn say_refused(v: Four) {
+fn say_refused(rt: &impl Print, v: Four) -> io::Result<()> {
     let mut text = [0u8; ROOM];
     let end = line(v, &mut text);
-    io::write_all(STDOUT_FILENO, &text[..end]);
+    io::writer(rt).write_all(&text[..end])
 }
 
 // Prints that the file `file` can't be opened: 0 is the problem, 1 the file to write.
-fn no_file(file: u8) {
+fn no_file(rt: &impl Print, file: u8) -> io::Result<()> {
     let mut text = [0u8; ROOM];
     let end = nofile(file, &mut text);
-    io::write_all(STDOUT_FILENO, &text[..end]);
+    io::writer(rt).write_all(&text[..end])
 }
 
 // Makes the answer to a problem. The file is opened only after a success.
-fn make(problem: &[u8], steps: u32) {
+fn make(rt: &(impl Env + Files + Print), problem: &[u8], steps: u32) -> io::Result<()> {
     let mut file = room();
     let v = made(problem, steps, &mut file);
     if v.code != 0 {
-        say_refused(v);
-        return;
+        return say_refused(rt, v);
     }
     let n = v.at as usize;
-    if save(&file[..n]) {
-        say_made(v);
+    if save(rt, &file[..n]) {
+        say_made(rt, v)
     } else {
-        no_file(1);
+        no_file(rt, 1)
     }
 }
 
 // Makes the answer to the problem that the first argument names.
-fn with_steps(steps: u32) {
+fn with_steps(rt: &(impl Env + Files + Print), steps: u32) -> io::Result<()> {
     let mut problem = room();
-    match load(1, &mut problem) {
-        Loaded::Missing => no_file(0),
-        Loaded::Bytes(n) => make(&problem[..n], steps),
+    match load(rt, 1, &mut problem) {
+        Loaded::Missing => no_file(rt, 0),
+        Loaded::Bytes(n) => make(rt, &problem[..n], steps),
     }
 }
 
 // Prints how the program is called.
-fn usage() {
-    io::write_all(STDOUT_FILENO, b"usage: make PROBLEM STEPS OUT\n");
+fn usage(rt: &impl Print) -> io::Result<()> {
+    io::writer(rt).write_all(b"usage: make PROBLEM STEPS OUT\n")
 }
 
-fn main() {
-    if os::arg_count() != 4 {
-        usage();
-        return;
+fn main(rt: HostRuntime) -> io::Result<()> {
+    if !is_given(&rt, 3) || is_given(&rt, 4) {
+        return usage(&rt);
     }
-    match asked() {
-        Steps::Bad => usage(),
-        Steps::Count(n) => with_steps(n),
+    match asked(&rt) {
+        Steps::Bad => usage(&rt),
+        Steps::Count(n) => with_steps(&rt, n),
     }
 }
