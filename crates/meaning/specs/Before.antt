@@ -4,7 +4,6 @@
 --   row_degree_before, leading_before, ReducedBefore, degree_sum_before      the rule as it was
 --   SaidBefore               what each verdict said by it
 --   reduced_before_degrees   what was reduced is, with the same degrees and Δ
---   verdict_kept, passed_before          every verdict but 9 stays; files that passed pass, with the same Δ
 --   lab_passed, lab_not_reduced_before   the claim that L2 tells of
 use Rattle.std.specs.Prelude.{◌≡◌, ◌≢◌, List, ℕ, zero, suc, pred, ◌<◌, ℤ, ◌+ℤ◌, ◌-ℤ◌, length}
 use Rattle.std.proofs.Math.Path.{refl, ap}
@@ -33,7 +32,7 @@ use Rattle.laws.specs.ReducedLaws.{no_degree_zero, entry_at_most, degree_sum_is}
 use Rattle.rules.specs.Run.{run_verdict}
 use Rattle.rules.specs.Requested.{lab}
 use Rattle.meaning.specs.Generating.{field_of, series_P}
-use Rattle.meaning.specs.Verdicts.{Reduced, SaysBy, Says, judge_claim_meaning}
+use Rattle.meaning.specs.Verdicts.{Reduced, SaysBy, Says}
 
 -- THE RULE AS IT WAS
 
@@ -103,10 +102,10 @@ module _ (c : Claim) where
     leading_kept : (i j : ℕ) → i < c.problem.m → j < c.problem.m → leading_before c i j ≡ leading_matrix c.problem c.answer.P i j
     leading_kept i j hi hj = rw (row_degree_kept i hi, leading_matrix)
 
-    reduced_kept : Reduced c
+    pub reduced_kept : Reduced c
     reduced_kept z = reduced (det_local (field_of c) c.problem.m (leading_before c) (leading_matrix c.problem c.answer.P) leading_kept ∙ z)
 
-    degree_sum_kept : degree_sum c.problem c.answer.P ≡ some (degree_sum_before c)
+    pub degree_sum_kept : degree_sum c.problem c.answer.P ≡ some (degree_sum_before c)
     degree_sum_kept = degree_sum_is c.problem c.answer.P (row_degree_before c) row_degree_kept
 
   -- What was reduced is reduced, with the same row degrees and the same Δ.
@@ -115,26 +114,6 @@ module _ (c : Claim) where
       × Reduced c
       × (degree_sum c.problem c.answer.P ≡ some (degree_sum_before c))
   reduced_before_degrees reduced = (row_degree_kept reduced, reduced_kept reduced, degree_sum_kept reduced)
-
-  still_said : (v : Verdict) → v ≢ not_reduced → SaidBefore c v → Says c v
-  still_said not_reduced ne h = absurd (ne refl)
-  still_said not_monomial ne (r, h) = (reduced_kept r, h)
-  still_said (below_order i j) ne (r, d, f) = (reduced_kept r, d, f)
-  still_said (at_order i j) ne (r, d, l, f) = (reduced_kept r, d, l, f)
-  still_said low_rank ne (r, d, l, o, k) = (reduced_kept r, d, l, o, k)
-  still_said (passed e) ne (r, d, l, o, k, sum) = (reduced_kept r, d, l, o, k, degree_sum_kept r ∙ sum)
-  still_said (unread q) ne h = h
-
-  -- Every verdict but 9 stays.
-  pub verdict_kept : 0 < c.problem.p → (v : Verdict) → v ≢ not_reduced → SaidBefore c v → judge_claim c ≡ v
-  verdict_kept positive v ne h = (judge_claim_meaning c positive v).1 (still_said v ne h)
-
--- Two files that passed pass, with the same Δ.
-pub passed_before : (s t : List ℕ) (c : Claim) (q : Place) → read_claim s t ≡ got c q → (d : ℕ) → SaidBefore c (passed d) → verdict s t ≡ passed d
-unfolding numbers
-passed_before s t c q e d h =
-    verdict_of_claim s t c q e
-    ∙ verdict_kept c (le_of_lt (claim_valid s t e).valid_problem.prime.two_le) (passed d) (λ n. suc-ne-zero 8 (sym (ap (λ v. (numbers v).code) n))) h
 
 -- WHAT DOES NOT
 

@@ -1,6 +1,6 @@
 -- From the numbers of `Plain` to the polynomials over K of the theory: sums and products of numbers modulo p are those of K, and lists
 -- of numbers stand for all polynomials.
---   red_times, red_row_times_column               products
+--   red_times                products
 --   poly_list, polynomial_poly_list               a list for each polynomial
 use Rattle.std.specs.Prelude.{◌≡◌, List, [], ℕ, suc, ◌-◌, ◌*◌, ◌≤◌, ◌<◌, pos}
 use Rattle.std.proofs.Math.Path.{sym, ap, fun_ext}
@@ -29,16 +29,6 @@ module _ (p : ℕ) where
       ∙ sum_cong (K p) (suc k) (λ i. red p (get_or f i 0 * get_or g (k - i) 0)) (λ i. (K p).◌⊗◌ (red p (get_or f i 0)) (red p (get_or g (k - i) 0)))
       (λ i b. red_mul p (get_or f i 0) (get_or g (k - i) 0))
       ∙ sym (convolve_sum (K p) (polynomial p f).series (polynomial p g).series k)
-
-  -- … and of a row times a column that of the row times the matrix.
-  pub red_row_times_column : (m : ℕ) (v : ℕ → List ℕ) (A : ℕ → ℕ → List ℕ) (j k : ℕ)
-      → red p (row_times_column m v (λ i. A i j) k) ≡ vmul (Series (K p)) m (λ i. (polynomial p (v i)).series) (λ i j. (polynomial p (A i j)).series) j k
-  unfolding row_times_column vmul coefficient
-  red_row_times_column m v A j k =
-      red_sum p m (λ i. times (v i) (A i j) k)
-      ∙ sum_cong (K p) m (λ i. red p (times (v i) (A i j) k)) (λ i. convolve (K p) (polynomial p (v i)).series (polynomial p (A i j)).series k)
-      (λ i b. red_times (v i) (A i j) k)
-      ∙ sym (coefficient_sum (K p) (pos k) m (λ i. convolve (K p) (polynomial p (v i)).series (polynomial p (A i j)).series))
 
 module _ (p : ℕ) where
   -- The coefficients of a polynomial over K as a list of numbers, …

@@ -5,7 +5,6 @@ pub mod Verdicts
 pub mod Drawings
 pub mod DrawnMeaning
 pub mod DrawnUnread
-pub mod Meaning
 pub mod Least
 pub mod LeastDegrees
 pub mod Before

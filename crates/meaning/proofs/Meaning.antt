@@ -23,8 +23,10 @@ use Rattle.laws.specs.VerdictLaws.{verdict_of_claim}
 use Rattle.laws.specs.ReducedLaws.{reduced_iff}
 use Rattle.laws.specs.DeterminantLaws.{degree_sum_exponent}
 use Rattle.meaning.specs.Plain.{row_P, Generates, Plain, PassMeansPlain}
-use Rattle.meaning.specs.Generating.{field_of, series_F, series_P, zero_below_iff, lists_iff_polynomials}
-use Rattle.meaning.specs.Verdicts.{IsMonomial, SomeMonomial, FullRank, Says, product_number, red_product, judge_claim_meaning}
+use Rattle.meaning.specs.Generating.{field_of, series_F, series_P}
+use Rattle.meaning.proofs.Generating.{zero_below_iff, lists_iff_polynomials}
+use Rattle.meaning.specs.Verdicts.{IsMonomial, SomeMonomial, FullRank, Says, product_number}
+use Rattle.meaning.proofs.Verdicts.{red_product, judge_claim_meaning}
 
 module _ (c : Claim) (prime : Prime c.problem.p) (C_below : (i j : ℕ) → get_or (get_or c.answer.C i []) j 0 < c.problem.p) where
   positive : 0 < c.problem.p
