@@ -1,7 +1,6 @@
 -- Past the first branch the problem was read, past the second the answer.
 use borrow.Author.Tests.{not-true, not-false}
-use mathlib.Core.Bool.{true}
-use mathlib.Core.Path.{◌≡◌, ◌∙◌}
+use mathlib.Core.Path.{◌∙◌}
 use Rattle.drawing.specs.Steps.{off_drawn, answer_off_drawn, both_arrays, both_sound, both_drawn}
 use Rattle.reader.specs.Readings.{problem_head}
 use Rattle.drawing.proofs.draw_files.Goals as goal

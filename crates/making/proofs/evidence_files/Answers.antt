@@ -1,8 +1,7 @@
 -- Past the first branch the problem was read, past the second the answer.
 use borrow.Author.Tests.{not-true, not-false}
-use mathlib.Core.Bool.{true}
 use mathlib.Core.List.{List}
-use mathlib.Core.Path.{◌≡◌, sym, ap}
+use mathlib.Core.Path.{sym, ap}
 use Prim.Native.Nat.{ℕ, ◌≤◌, zero-le}
 use native.Mathlib.Omega.{arith}
 use lib.ListN.{length, length-take}
