@@ -1,10 +1,10 @@
 -- What the program does with an answer that is made.
 --   made_line                the line that is printed: the steps done, and the bytes
 --   made_fits                after a success the bytes to write are no more than there are
-use Rattle.std.specs.Prelude.{◌≡◌, refl, Bool, true, false, List, [], ◌∷◌, ◌++◌, ℕ, ◌+◌, ◌≤◌, leb, length, drop}
+use Rattle.std.specs.Prelude.{◌≡◌, refl, Bool, true, false, List, [], ◌∷◌, ◌++◌, ℕ, ◌≤◌, leb, length, drop}
 use Rattle.std.proofs.Common.{sym, ap, subst, ◌∙◌, arith, length-append}
 use Rattle.rules.specs.Claim.{Problem}
-use Rattle.rules.specs.Reader.{Place, Refusal, Result, refused, got, front}
+use Rattle.rules.specs.Reader.{Refusal, Result, refused, got, front}
 use Rattle.rules.specs.Files.{read_problem}
 use Rattle.rules.specs.Maker.{make_answer}
 use Rattle.rules.specs.Verdict.{Numbers}
