@@ -1,16 +1,14 @@
 -- Determinants of a matrix whose rows are multiplied by factors, and of the identity less constants that clear some rows by others.
 --   det_less                 its determinant is not 0
-use Rattle.std.specs.Prelude.{◌≡◌, ◌≢◌, Bool, true, false, [], ◌∷◌}
+use Rattle.std.specs.Prelude.{◌≡◌, ◌≢◌, Bool, true, false}
 use Rattle.std.proofs.Math.Path.{refl, sym, ap, ap₂}
 use Rattle.std.proofs.Common.{◌∙◌}
-use Prim.Native.Nat.{ℕ, zero, suc, ◌<◌}
-use Rattle.std.proofs.Math.Decide.{ℕ_discrete}
+use Prim.Native.Nat.{ℕ, ◌<◌}
 use Rattle.algebra.specs.Ring as Ring
 use Rattle.algebra.specs.Ring.{CommRing, Nontrivial, Inverts}
-use Rattle.algebra.specs.Solver.{v0, v1, v2, ◌⊞◌, ◌⊠◌, ⊟◌, ring}
-use Rattle.algebra.specs.Sum.{sum, sum_cong, mul_sum, neg_sum, sum_replace, skip, replace, replace_at, replace_other}
-use Rattle.algebra.specs.Matrix.{Row, Matrix, unit, vmul, mmul, vmul_unit, unit_vmul, vmul_add, vmul_scale}
-use Rattle.algebra.specs.Det.{minor, det, det_local}
+use Rattle.algebra.specs.Sum.{sum_cong}
+use Rattle.algebra.specs.Matrix.{Matrix, unit, vmul, mmul, vmul_unit, unit_vmul, vmul_add}
+use Rattle.algebra.specs.Det.{det, det_local}
 use Rattle.algebra.proofs.Det.{det_unit}
 use Rattle.algebra.proofs.ProductRule.{det_mul}
 use Rattle.algebra.specs.Clearing.{Clears, less}

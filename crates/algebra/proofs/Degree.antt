@@ -4,21 +4,20 @@
 --   leading r s P            the leading matrix of P
 --   EntriesAtMost m n r s P  the entries of P have degrees at most r i − s j
 --   det_degree, degree_of_det            the degree and the leading coefficient of a determinant
-use Rattle.std.specs.Prelude.{◌≡◌, ◌≢◌, ◌↔◌, [], ◌∷◌, ℤ, ◌+ℤ◌, ◌-ℤ◌}
+use Rattle.std.specs.Prelude.{◌≡◌, ◌≢◌, [], ◌∷◌, ℤ, ◌+ℤ◌, ◌-ℤ◌}
 use Rattle.std.proofs.Math.Path.{refl, sym, ap, ap₂, subst}
-use Rattle.std.proofs.Common.{◌∙◌, arith}
-use Prim.Native.Nat.{ℕ, zero, suc, ◌+◌, ◌-◌, ◌<◌, zero-le, suc-le-suc}
+use Rattle.std.proofs.Common.{◌∙◌}
+use Prim.Native.Nat.{ℕ, zero, suc, ◌<◌, suc-le-suc}
 use Rattle.std.proofs.Math.Nat as Nat
-use Rattle.std.proofs.Math.Decide.{dec_le}
-use Rattle.std.proofs.Math.IntN.{pos, negsuc, suc_ℤ, nat_abs, +ℤ_idr, +ℤ-suc_ℤ, pos-ne-negsuc}
+use Rattle.std.proofs.Math.IntN.{pos, negsuc, +ℤ_idr, +ℤ-suc_ℤ}
 use Rattle.algebra.specs.Ring as Ring
 use Rattle.algebra.specs.Ring.{CommRing, Decides, sign}
 use Rattle.algebra.specs.Solver.{v0, v1, v2, v3, ⓪, ◌⊞◌, ⊟◌, ring}
-use Rattle.algebra.specs.Integer.{Integers, More}
+use Rattle.algebra.specs.Integer.{Integers}
 use Rattle.algebra.specs.Sum.{sum, sum_apart, sum_cong, skip, skip_below}
-use Rattle.algebra.specs.Series.{series_ext, constant}
+use Rattle.algebra.specs.Series.{series_ext}
 use Rattle.algebra.proofs.Series.{Series}
-use Rattle.algebra.specs.Polynomial.{Below, below_mono, below_last, below_constant}
+use Rattle.algebra.specs.Polynomial.{Below}
 use Rattle.algebra.proofs.Polynomial.{below_mul_suc, below_add, below_neg, mul_leading}
 use Rattle.algebra.specs.Matrix.{Matrix}
 use Rattle.algebra.specs.Det.{minor, det}

@@ -7,7 +7,7 @@ use Rattle.std.proofs.Common.{◌∙◌, zero-lt-suc}
 use Prim.Native.Nat.{ℕ, zero, suc, ◌<◌, suc-le-suc}
 use Rattle.algebra.specs.Ring as Ring
 use Rattle.algebra.specs.Ring.{CommRing, RingRelation, sign, sign_related, power}
-use Rattle.algebra.specs.Sum.{skip, skip_below, sum, sum_cong, sum_zero, mul_sum, sum_swap, sum_related}
+use Rattle.algebra.specs.Sum.{skip, skip_below, sum, sum_cong, sum_zero, sum_related}
 use Rattle.algebra.specs.Matrix.{Row, Matrix, Same, cons, unit, transpose}
 use Rattle.algebra.specs.Det.{minor, det, det_local, det_first_column}
 

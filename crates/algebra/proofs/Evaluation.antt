@@ -9,7 +9,6 @@ use Rattle.std.proofs.Math.Nat as Nat
 use Rattle.std.proofs.Math.Nat.{le-max_left, le-max_right}
 use Rattle.algebra.specs.Ring as Ring
 use Rattle.algebra.specs.Ring.{CommRing, Decides, Cancels, RingRelation, power}
-use Rattle.algebra.specs.Sum.{sum, sum_cong, mul_sum}
 use Rattle.algebra.specs.Series.{tail, convolve, convolve_vanishes, constant, X}
 use Rattle.algebra.proofs.Series.{Series}
 use Rattle.algebra.specs.Polynomial.{Below, below_mono, below_constant, below_X, Poly}

@@ -1,18 +1,15 @@
 -- Inverses, determinants, a division by a root and how many roots there are, in numbers, each by computation.
-use Rattle.std.specs.Prelude.{◌≡◌, refl, true, false, List, [], ◌∷◌, ℕ, zero, suc, ◌-◌, ◌^◌, eqb, get_or, pos}
-use Rattle.std.proofs.Math.Logic.{ite}
+use Rattle.std.specs.Prelude.{◌≡◌, refl, [], ◌∷◌, ℕ, zero, suc, get_or, pos}
 use Rattle.std.proofs.Common.{arith}
 use Rattle.algebra.specs.Ring.{sign}
 use Rattle.algebra.specs.Sum.{skip, sum}
-use Rattle.algebra.specs.Residue.{Residue, red, K, K_decides, K_inverse}
-use Rattle.algebra.specs.Count.{count}
+use Rattle.algebra.specs.Residue.{red, K}
 use Rattle.algebra.specs.Series.{series_ext, convolve, constant}
 use Rattle.algebra.proofs.Series.{Series}
 use Rattle.algebra.specs.Polynomial.{Poly, Below, below_mono, poly_list}
 use Rattle.algebra.specs.Evaluation.{ev, value}
 use Rattle.algebra.specs.Root.{quo}
 use Rattle.algebra.proofs.Root.{poly_quo}
-use Rattle.algebra.specs.Matrix.{Matrix}
 use Rattle.algebra.specs.Det.{det}
 use Rattle.algebra.proofs.PolyMatrix.{entries}
 use Rattle.algebra.specs.Degree.{AtMost}

@@ -9,7 +9,7 @@ use Rattle.std.specs.Prelude.{◌≡◌, ◌≢◌}
 use Rattle.std.proofs.Math.Path.{refl, sym, ap}
 use Rattle.std.proofs.Common.{subst, ◌∙◌}
 use mathlib.Core.List.{List, [], ◌∷◌}
-use Prim.Native.Nat.{ℕ, ◌+◌, ◌<◌}
+use Prim.Native.Nat.{ℕ, ◌<◌}
 use Rattle.algebra.specs.Ring as Ring
 use Rattle.algebra.specs.Ring.{CommRing, Decides, Cancels, Nontrivial}
 use Rattle.algebra.specs.Solver.{◌⊠◌, ①, v0, v1, v2, v3, ring}
@@ -24,7 +24,7 @@ use Rattle.algebra.specs.Root.{lin}
 use Rattle.algebra.proofs.Root.{poly_quo, divide_root, root_of_multiple, cancel_lin}
 use Rattle.algebra.specs.Linears.{All, all_nil, all_cons}
 use Rattle.algebra.proofs.Linears.{linears, poly_linears, Splits}
-use Rattle.algebra.specs.Matrix.{Row, Matrix, vmul, mmul, beside, vmul_cong, vmul_scale, vmul_assoc}
+use Rattle.algebra.specs.Matrix.{Row, Matrix, vmul, mmul, vmul_cong, vmul_scale, vmul_assoc}
 use Rattle.algebra.specs.Det.{det}
 use Rattle.algebra.proofs.Adjugate.{row_adjugate_mul}
 use Rattle.algebra.specs.PolyMatrix.{values}

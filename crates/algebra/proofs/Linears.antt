@@ -7,8 +7,7 @@ use Rattle.std.proofs.Math.Path.{refl, sym, ap, ap₂, subst}
 use Rattle.std.proofs.Common.{◌∙◌, le_of_suc-le-suc, not-suc-le-zero, arith}
 use Rattle.std.proofs.Math.Logic.{inl, inr}
 use mathlib.Core.List.{List, [], ◌∷◌, ◌++◌}
-use Prim.Native.Nat.{ℕ, zero, suc, ◌<◌, suc-le-suc}
-use Rattle.std.proofs.Math.Nat as Nat
+use Prim.Native.Nat.{ℕ, zero, suc, ◌<◌}
 use Rattle.algebra.specs.Ring as Ring
 use Rattle.algebra.specs.Ring.{CommRing, Decides, Cancels, Nontrivial, power}
 use Rattle.algebra.specs.Series.{convolve, constant, shift}

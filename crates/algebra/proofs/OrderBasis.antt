@@ -2,7 +2,7 @@
 -- row of polynomials whose product does exactly if the determinant of P is a nonzero constant times a power of X and the rows of
 -- [P(0) C] are independent, where C holds the coefficients at the orders.
 --   Vanishes m n F d v       the coefficients of v·F below the order d j are 0, in each column j
-use Rattle.std.specs.Prelude.{◌≡◌, ◌≢◌, ◌↔◌, List, ℕ, zero, suc, ◌+◌, ◌≤◌, ◌<◌, length, replicate}
+use Rattle.std.specs.Prelude.{◌≡◌, ◌≢◌, ◌↔◌, ℕ, zero, suc, ◌+◌, ◌≤◌, ◌<◌, length, replicate}
 use Rattle.std.proofs.Common.{sym, subst, ◌∙◌, add-zero, arith}
 use Rattle.std.proofs.Math.Path.{ap}
 use Rattle.std.proofs.Math.Decide.{dec_lt, ℕ_discrete}

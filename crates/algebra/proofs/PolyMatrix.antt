@@ -7,7 +7,7 @@ use Rattle.algebra.specs.Ring.{CommRing}
 use Rattle.algebra.proofs.Series.{Series}
 use Rattle.algebra.specs.Polynomial.{Poly, Bounded, poly_bounded, bounded_poly}
 use Rattle.algebra.proofs.Polynomial.{bounded}
-use Rattle.algebra.specs.Evaluation.{value, Evaluates, evaluates_value}
+use Rattle.algebra.specs.Evaluation.{Evaluates, evaluates_value}
 use Rattle.algebra.proofs.Evaluation.{evaluation}
 use Rattle.algebra.specs.Matrix.{Row, Matrix, vmul, unit, vmul_related, unit_related}
 use Rattle.algebra.specs.Det.{det}

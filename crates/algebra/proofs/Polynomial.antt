@@ -5,16 +5,15 @@
 --   Series_cancels           series over a ring without zero divisors have none
 --   degree, Poly_decides     the degree of a polynomial, and whether it is 0
 --   constant_of_unit_product the factors of a constant are constants
-use Rattle.std.specs.Prelude.{◌≡◌, ◌≢◌, ◌⊎◌, List, length, get_or}
+use Rattle.std.specs.Prelude.{◌≡◌, ◌≢◌, ◌⊎◌}
 use Rattle.std.proofs.Math.Path.{refl}
-use Rattle.std.proofs.Common.{sym, ap, ap₂, ◌∙◌, inl, inr, le_of_suc-le-suc, not-suc-le-zero, le_trans, lt_of_not-le, eq-or-lt_of_le, arith}
-use Prim.Native.Nat.{ℕ, zero, suc, ◌+◌, ◌≤◌, ◌<◌, max, zero-le, suc-le-suc}
+use Rattle.std.proofs.Common.{sym, ap, ap₂, ◌∙◌, inl, inr, not-suc-le-zero, lt_of_not-le, arith}
+use Prim.Native.Nat.{ℕ, zero, suc, ◌+◌, ◌≤◌, ◌<◌, max, zero-le}
 use Rattle.std.proofs.Math.Nat.{le-max_left, le-max_right}
 use Rattle.std.proofs.Math.Decide.{dec_le}
-use Rattle.std.proofs.Math.ListN.{get_or-eq_default}
 use Rattle.algebra.specs.Ring as Ring
 use Rattle.algebra.specs.Ring.{CommRing, RingRelation, Decides, Cancels}
-use Rattle.algebra.specs.Series.{series_ext, convolve_vanishes, constant, X}
+use Rattle.algebra.specs.Series.{series_ext, convolve_vanishes, constant}
 use Rattle.algebra.proofs.Series.{Series, convolve_single}
 use Rattle.algebra.specs.Polynomial.{Below, below_mono, below_last, constant_of_below, Poly, poly_one, Bounded, poly_bounded, bounded_poly}
 

@@ -6,7 +6,7 @@
 --   divide_power, vanishes_iff_divisible    X^d divides a series exactly if its coefficients below d are 0
 use Rattle.std.specs.Prelude.{◌≡◌, ◌≢◌, ◌↔◌}
 use Rattle.std.proofs.Math.Path.{refl, sym, ap, ap₂}
-use Rattle.std.proofs.Common.{subst, ◌∙◌, le_of_suc-le-suc, not-suc-le-zero, le_trans, le-add_left, arith}
+use Rattle.std.proofs.Common.{subst, ◌∙◌, arith}
 use Prim.Native.Nat.{ℕ, zero, suc, ◌+◌, ◌<◌, pred, suc-le-suc}
 use Rattle.std.proofs.Math.Nat as Nat
 use Rattle.std.proofs.Math.Nat.{le-suc}
@@ -14,7 +14,7 @@ use Rattle.algebra.specs.Ring as Ring
 use Rattle.algebra.specs.Ring.{CommRing, Decides, Cancels, Nontrivial, power}
 use Rattle.algebra.specs.Series.{series_ext, tail, convolve, constant, X, shift, shift_below}
 use Rattle.algebra.proofs.Series.{Series, constant_mul, constant_zero, shift_power}
-use Rattle.algebra.specs.Polynomial.{Below, below_constant, Poly}
+use Rattle.algebra.specs.Polynomial.{Below, Poly}
 use Rattle.algebra.proofs.Polynomial.{Series_cancels}
 use Rattle.algebra.specs.Evaluation.{ev, ev_vanishes, Evaluates}
 use Rattle.algebra.proofs.Evaluation.{ev_mono, evaluates_constant, evaluates_X, evaluation}

@@ -8,14 +8,14 @@
 --   count_zeros_modulo       of the p numbers x modulo a prime p, at most d have f(x) = 0
 use Rattle.std.specs.Prelude.{◌≡◌, refl, ◌≢◌, Bool, true, ℕ, zero, suc, ◌≤◌, ◌<◌, pred}
 use Rattle.std.proofs.Math.Path.{sym}
-use Rattle.std.proofs.Common.{ap, subst, ◌∙◌, zero-le, suc-le-suc, zero-lt-suc, suc-ne-zero, lt_of_not-le, le_trans, le_of_lt, mod-eq_of_lt, eqb→eq}
+use Rattle.std.proofs.Common.{ap, subst, ◌∙◌, zero-le, suc-le-suc, zero-lt-suc, suc-ne-zero, lt_of_not-le, le_trans, le_of_lt, eqb→eq}
 use Rattle.std.proofs.Math.Nat.{suc_inj, zero-mod}
 use Rattle.std.proofs.Math.Decide.{dec_le}
 use Rattle.std.proofs.Math.Dec.{T, eqb}
 use Rattle.algebra.specs.Ring as Ring
 use Rattle.algebra.specs.Ring.{CommRing, Cancels}
 use Rattle.algebra.specs.Prime.{Prime}
-use Rattle.algebra.specs.Residue.{K, Residue, red, red_eq, residue_ext}
+use Rattle.algebra.specs.Residue.{K, Residue, red, residue_ext}
 use Rattle.algebra.proofs.Residue.{K_cancels}
 use Rattle.algebra.specs.Count.{Distinct, count, Passing, passing}
 use Rattle.algebra.specs.Series.{series_ext}

@@ -1,14 +1,13 @@
 -- The ring of formal power series over a commutative ring: a series is its coefficients, and the product is the Cauchy product.
 --   Series R                 the ring: carrier ℕ → C, pointwise sum, Cauchy product
 use Rattle.std.specs.Prelude.{◌≡◌, ◌≢◌}
-use Rattle.std.proofs.Math.Path.{refl, sym, ap, ap₂, fun_ext}
-use Rattle.std.proofs.Common.{◌∙◌, le_of_suc-le-suc, not-suc-le-zero, arith}
+use Rattle.std.proofs.Math.Path.{refl, sym, ap, ap₂}
+use Rattle.std.proofs.Common.{◌∙◌, arith}
 use mathlib.Core.HLevel.{→_set}
-use Prim.Native.Nat.{ℕ, zero, suc, ◌+◌, ◌-◌, ◌<◌}
+use Prim.Native.Nat.{ℕ, zero, suc, ◌+◌}
 use Rattle.std.proofs.Math.Nat as Nat
 use Rattle.algebra.specs.Ring as Ring
 use Rattle.algebra.specs.Ring.{CommRing, power}
-use Rattle.algebra.specs.Sum.{sum}
 use Rattle.algebra.specs.Series.{tail, convolve, constant, X, shift, series_ext, convolve_suc_right, convolve_add, convolve_scale, convolve_vanishes}
 
 module _ (R : CommRing) where

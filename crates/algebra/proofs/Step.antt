@@ -4,14 +4,13 @@
 --   residuals                the coefficients of P-as-F at the orders
 --   Basis                    what holds of P after each step, for the orders reached and the row degrees
 --   cleared_is, next_product         a step is a product with constants, and may be made on the product with F
-use Rattle.std.specs.Prelude.{◌≡◌, refl, ◌≢◌, Bool, true, false, ℤ, pos}
+use Rattle.std.specs.Prelude.{◌≡◌, refl, ◌≢◌, Bool, ℤ, pos}
 use Rattle.std.proofs.Math.Path.{sym, ap, ap₂}
 use Rattle.std.proofs.Common.{◌∙◌}
 use Prim.Native.Nat.{ℕ, zero, ◌+◌, ◌<◌}
 use Rattle.algebra.specs.Ring.{CommRing, power}
-use Rattle.algebra.specs.Integer.{More}
 use Rattle.algebra.specs.Sum.{sum_cong}
-use Rattle.algebra.specs.Series.{series_ext, constant, shift, X}
+use Rattle.algebra.specs.Series.{series_ext, constant, X}
 use Rattle.algebra.proofs.Series.{Series, constant_mul, shift_power}
 use Rattle.algebra.specs.Matrix.{Row, Matrix, beside, unit, vmul, mmul, unit_vmul, vmul_cong, vmul_add, vmul_scale, vmul_assoc}
 use Rattle.algebra.specs.Det.{det}
@@ -20,7 +19,7 @@ use Rattle.algebra.specs.Degree.{coefficient}
 use Rattle.algebra.proofs.Degree.{leading, EntriesAtMost, coefficient_sum}
 use Rattle.algebra.specs.OrderBasis.{Monomial}
 use Rattle.algebra.proofs.OrderBasis.{Vanishes}
-use Rattle.algebra.specs.Clearing.{vmul_neg, Clears, less}
+use Rattle.algebra.specs.Clearing.{vmul_neg, less}
 use Rattle.algebra.specs.Step.{once, cleared, next}
 
 module _ (R : CommRing) where

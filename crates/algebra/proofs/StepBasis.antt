@@ -2,7 +2,7 @@
 --   identity_basis, step_basis, cut_basis       these three
 --   basis_row_degree         the degrees are those of the rows
 --   basis_local        what a choice and a basis depend on
-use Rattle.std.specs.Prelude.{◌≡◌, Bool, true, [], ◌∷◌, ℤ, pos, ◌+ℤ◌, ◌-ℤ◌}
+use Rattle.std.specs.Prelude.{◌≡◌, Bool, [], ◌∷◌, ℤ, pos, ◌+ℤ◌, ◌-ℤ◌}
 use Rattle.std.proofs.Math.Path.{refl, sym, ap, ap₂, subst}
 use Rattle.std.proofs.Common.{◌∙◌, inl, inr, zero-add as nat_zero_add, arith}
 use Prim.Native.Nat.{ℕ, zero, suc, ◌+◌, ◌<◌}

@@ -3,23 +3,21 @@
 --   ReducedFor r P           P has the row degrees r, and its leading matrix is nonsingular
 --   generated_degrees        where the rows of P are combinations of those of P', each has a row of P' of no larger degree, no two the same
 --   same_degrees             where this holds both ways, each has one of the same degree
-use Rattle.std.specs.Prelude.{◌≡◌, ◌≢◌, [], ◌∷◌, ℤ, pos, ◌+ℤ◌, ◌-ℤ◌}
-use Rattle.std.proofs.Math.Path.{refl, sym, ap}
-use Rattle.std.proofs.Common.{ap₂, subst, ◌∙◌, le_of_suc-le-suc, not-suc-le-zero, zero-lt-suc, arith}
-use Rattle.std.proofs.Math.Logic.{inl, inr}
-use Prim.Native.Nat.{ℕ, zero, suc, ◌+◌, ◌<◌, suc-le-suc}
+use Rattle.std.specs.Prelude.{◌≡◌, ◌≢◌, ℤ, pos, ◌+ℤ◌, ◌-ℤ◌}
+use Rattle.std.proofs.Math.Path.{sym, ap}
+use Rattle.std.proofs.Common.{subst, ◌∙◌, arith}
+use Prim.Native.Nat.{ℕ, ◌+◌, ◌<◌}
 use Rattle.std.proofs.Math.Decide.{dec_lt}
-use Rattle.std.proofs.Math.IntN.{+ℤ_idr, +ℤ_assoc, -ℤ-+ℤ_cancel, +ℤ_comm}
+use Rattle.std.proofs.Math.IntN.{+ℤ_assoc, -ℤ-+ℤ_cancel, +ℤ_comm}
 use Rattle.algebra.specs.Ring as Ring
 use Rattle.algebra.specs.Ring.{CommRing, Decides, Cancels, sign}
-use Rattle.algebra.specs.Solver.{v0, v1, v2, v3, ◌⊞◌, ring}
 use Rattle.algebra.specs.Integer.{Integers, More, more_none}
-use Rattle.algebra.specs.Sum.{skip, skip_ne, skip_injective, skip_below, sum, sum_zero, sum_apart, zeros_or_not}
+use Rattle.algebra.specs.Sum.{sum}
 use Rattle.algebra.proofs.Series.{Series}
 use Rattle.algebra.specs.Polynomial.{Poly}
 use Rattle.algebra.proofs.Polynomial.{poly_zero}
-use Rattle.algebra.specs.Matrix.{Matrix, cons, vmul, mmul}
-use Rattle.algebra.specs.Det.{minor, det, det_local}
+use Rattle.algebra.specs.Matrix.{Matrix, vmul, mmul}
+use Rattle.algebra.specs.Det.{det, det_local}
 use Rattle.algebra.proofs.ProductRule.{det_mul}
 use Rattle.algebra.proofs.PolyMatrix.{coordinates, entries}
 use Rattle.algebra.specs.Degree.{AtMost, coefficient, coefficient_ne_zero}

@@ -1,15 +1,8 @@
 -- The adjugate matrix, and what a determinant says of a system of linear equations.
 --   adjugate n A             the matrix of signed minors, transposed
-use Rattle.std.specs.Prelude.{◌≡◌, ◌≢◌}
-use Rattle.std.proofs.Math.Path.{refl, sym, ap, ap₂}
-use Rattle.std.proofs.Common.{◌∙◌, not-suc-le-zero, add_comm as nat_add_comm}
-use Prim.Native.Nat.{ℕ, zero, suc, ◌+◌, ◌<◌}
-use Rattle.std.proofs.Math.Decide.{ℕ_discrete}
-use Rattle.algebra.specs.Ring as Ring
-use Rattle.algebra.specs.Ring.{CommRing, RingRelation, Cancels, sign, sign_related}
-use Rattle.algebra.specs.Sum.{skip, sum, sum_cong}
-use Rattle.algebra.specs.Matrix.{Row, Matrix, transpose, unit, unit_diagonal, unit_off, unit_transpose, vmul, mmul, vmul_assoc, vmul_cong}
-use Rattle.algebra.specs.Matrix.{vmul_unit, unit_vmul, vmul_zero}
+use Prim.Native.Nat.{ℕ, zero, suc, ◌+◌}
+use Rattle.algebra.specs.Ring.{CommRing, sign}
+use Rattle.algebra.specs.Matrix.{Matrix}
 use Rattle.algebra.specs.Det.{minor, det}
 
 module _ (R : CommRing) where

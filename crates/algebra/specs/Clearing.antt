@@ -5,7 +5,7 @@
 --   Clears, less             constants that subtract pivot rows from the other rows, and the identity less them
 --   row_of_others            a row that has a constant other than 0 in a combination to zero is a combination of the others
 use Rattle.std.specs.Prelude.{◌≡◌, ◌≢◌, Bool, true, false, [], ◌∷◌}
-use Rattle.std.proofs.Math.Path.{refl, sym, ap, ap₂}
+use Rattle.std.proofs.Math.Path.{refl, sym, ap}
 use Rattle.std.proofs.Common.{◌∙◌}
 use Prim.Native.Nat.{ℕ, zero, suc, ◌<◌}
 use Rattle.std.proofs.Math.Decide.{ℕ_discrete}
@@ -13,8 +13,8 @@ use Rattle.algebra.specs.Ring as Ring
 use Rattle.algebra.specs.Ring.{CommRing, Nontrivial, Inverts}
 use Rattle.algebra.specs.Solver.{v0, v1, v2, ◌⊞◌, ◌⊠◌, ⊟◌, ring}
 use Rattle.algebra.specs.Sum.{sum, sum_cong, mul_sum, neg_sum, sum_replace, skip, replace, replace_at, replace_other}
-use Rattle.algebra.specs.Matrix.{Row, Matrix, unit, vmul, mmul, vmul_unit, unit_vmul, vmul_add, vmul_scale}
-use Rattle.algebra.specs.Det.{minor, det, det_local}
+use Rattle.algebra.specs.Matrix.{Row, Matrix, unit, vmul, vmul_scale}
+use Rattle.algebra.specs.Det.{minor, det}
 
 module _ (R : CommRing) where
   open R use {C, 𝟘, 𝟙, ◌⊕◌, ◌⊗◌, ⊖◌, add_zero, add_neg, mul_assoc, mul_one}

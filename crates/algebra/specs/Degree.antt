@@ -4,22 +4,17 @@
 --   AtMost e f               the series f has no coefficient above the integer e: f is 0 where e is negative
 --   coefficient e f          the coefficient of f at the integer e: 0 where e is negative
 --   Lead e f c               f has degree at most e, and c is its coefficient there
-use Rattle.std.specs.Prelude.{◌≡◌, ◌≢◌, ◌↔◌, [], ◌∷◌, ℤ, ◌+ℤ◌, ◌-ℤ◌}
-use Rattle.std.proofs.Math.Path.{refl, sym, ap, ap₂, subst}
-use Rattle.std.proofs.Common.{◌∙◌, arith}
-use Prim.Native.Nat.{ℕ, zero, suc, ◌+◌, ◌-◌, ◌<◌, zero-le, suc-le-suc}
+use Rattle.std.specs.Prelude.{◌≡◌, ◌≢◌, ◌↔◌, ℤ}
+use Rattle.std.proofs.Math.Path.{refl, sym, ap, subst}
+use Rattle.std.proofs.Common.{arith}
+use Prim.Native.Nat.{ℕ, zero, suc, ◌+◌, ◌-◌, zero-le}
 use Rattle.std.proofs.Math.Nat as Nat
 use Rattle.std.proofs.Math.Decide.{dec_le}
-use Rattle.std.proofs.Math.IntN.{pos, negsuc, suc_ℤ, nat_abs, +ℤ_idr, +ℤ-suc_ℤ, pos-ne-negsuc}
-use Rattle.algebra.specs.Ring as Ring
-use Rattle.algebra.specs.Ring.{CommRing, Decides, sign}
-use Rattle.algebra.specs.Solver.{v0, v1, v2, v3, ⓪, ◌⊞◌, ⊟◌, ring}
-use Rattle.algebra.specs.Integer.{Integers, More}
-use Rattle.algebra.specs.Sum.{sum, sum_apart, sum_cong, skip, skip_below}
-use Rattle.algebra.specs.Series.{series_ext, constant}
+use Rattle.std.proofs.Math.IntN.{pos, negsuc, suc_ℤ, nat_abs, pos-ne-negsuc}
+use Rattle.algebra.specs.Ring.{CommRing, Decides}
+use Rattle.algebra.specs.Integer.{More}
+use Rattle.algebra.specs.Series.{constant}
 use Rattle.algebra.specs.Polynomial.{Below, below_mono, below_last, below_constant}
-use Rattle.algebra.specs.Matrix.{Matrix}
-use Rattle.algebra.specs.Det.{minor, det}
 
 module _ (R : CommRing) where
   open R use {C, 𝟘, 𝟙, ◌⊕◌, ◌⊗◌, ⊖◌, add_zero}

@@ -6,11 +6,11 @@
 use Rattle.std.specs.Prelude.{◌≡◌}
 use Rattle.std.proofs.Math.Path.{refl, sym, ap, ap₂}
 use Rattle.std.proofs.Common.{◌∙◌, zero-lt-suc}
-use Prim.Native.Nat.{ℕ, zero, suc, ◌<◌, suc-le-suc}
+use Prim.Native.Nat.{ℕ, zero, suc, suc-le-suc}
 use Rattle.algebra.specs.Ring as Ring
 use Rattle.algebra.specs.Ring.{CommRing, RingRelation, sign, sign_related, power}
-use Rattle.algebra.specs.Sum.{skip, skip_below, sum, sum_cong, sum_zero, mul_sum, sum_swap, sum_related}
-use Rattle.algebra.specs.Matrix.{Row, Matrix, Same, cons, unit, transpose}
+use Rattle.algebra.specs.Sum.{skip, skip_below, sum, sum_cong, mul_sum, sum_swap}
+use Rattle.algebra.specs.Matrix.{Matrix, Same}
 
 -- A without row k and column j.
 abbrev pub minor : {A : Type 0} → ℕ → ℕ → (ℕ → ℕ → A) → ℕ → ℕ → A

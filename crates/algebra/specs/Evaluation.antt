@@ -3,17 +3,15 @@
 --   value a f                the value of a polynomial
 --   ev_powers                it is the sum of the coefficients times the powers of the point
 --   Evaluates a f y          f has a bound, and y is its value at a
-use Rattle.std.specs.Prelude.{◌≡◌, ◌⊎◌}
+use Rattle.std.specs.Prelude.{◌≡◌}
 use Rattle.std.proofs.Math.Path.{refl, sym, ap, ap₂}
-use Rattle.std.proofs.Common.{◌∙◌, le_of_suc-le-suc, not-suc-le-zero, arith}
-use Prim.Native.Nat.{ℕ, zero, suc, ◌+◌, ◌≤◌, max, zero-le, suc-le-suc}
-use Rattle.std.proofs.Math.Nat as Nat
-use Rattle.std.proofs.Math.Nat.{le-max_left, le-max_right}
+use Rattle.std.proofs.Common.{◌∙◌}
+use Prim.Native.Nat.{ℕ, zero, suc, zero-le}
 use Rattle.algebra.specs.Ring as Ring
 use Rattle.algebra.specs.Ring.{CommRing, Decides, Cancels, RingRelation, power}
 use Rattle.algebra.specs.Sum.{sum, sum_cong, mul_sum}
-use Rattle.algebra.specs.Series.{tail, convolve, convolve_vanishes, constant, X}
-use Rattle.algebra.specs.Polynomial.{Below, below_mono, below_constant, below_X, Poly}
+use Rattle.algebra.specs.Series.{tail}
+use Rattle.algebra.specs.Polynomial.{Below, Poly}
 
 module _ (R : CommRing) where
   open R use {C, 𝟘, 𝟙, ◌⊕◌, ◌⊗◌, ⊖◌, add_assoc, add_comm, add_zero, mul_assoc, mul_one, mul_add}

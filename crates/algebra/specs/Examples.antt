@@ -1,19 +1,15 @@
 -- Inverses, determinants, a division by a root and how many roots there are, in numbers, each by computation.
 --   residues p l             the residues modulo p of the numbers of l
-use Rattle.std.specs.Prelude.{◌≡◌, refl, true, false, List, [], ◌∷◌, ℕ, zero, suc, ◌-◌, ◌^◌, eqb, get_or, pos}
+use Rattle.std.specs.Prelude.{◌≡◌, refl, true, false, List, [], ◌∷◌, ℕ, ◌-◌, ◌^◌, eqb, get_or}
 use Rattle.std.proofs.Math.Logic.{ite}
-use Rattle.std.proofs.Common.{arith}
 use Rattle.algebra.specs.Ring.{sign}
 use Rattle.algebra.specs.Sum.{skip, sum}
 use Rattle.algebra.specs.Residue.{Residue, red, K, K_decides, K_inverse}
 use Rattle.algebra.specs.Count.{count}
-use Rattle.algebra.specs.Series.{series_ext, convolve, constant}
-use Rattle.algebra.specs.Polynomial.{Poly, Below, below_mono, poly_list}
+use Rattle.algebra.specs.Polynomial.{poly_list}
 use Rattle.algebra.specs.Evaluation.{ev, value}
-use Rattle.algebra.specs.Root.{quo}
 use Rattle.algebra.specs.Matrix.{Matrix}
 use Rattle.algebra.specs.Det.{det}
-use Rattle.algebra.specs.Degree.{AtMost}
 
 -- The residues modulo p of the numbers of a list.
 abbrev pub residues : (p : ℕ) → List ℕ → List (Residue p)

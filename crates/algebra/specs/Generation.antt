@@ -2,24 +2,13 @@
 -- modulus M of its column. (After Giorgi and Neiger, "Certification of minimal approximant bases", ISSAC 2018, Theorem 2.1 and
 -- Lemma 2.2, where M is a power of X; here the moduli are any polynomials other than 0, and products of linear factors where roots are needed.)
 --   FullRank m n P Q a       [P(a) Q(a)] has independent rows
-use Rattle.std.specs.Prelude.{◌≡◌, ◌≢◌}
-use Rattle.std.proofs.Math.Path.{refl, sym, ap}
-use Rattle.std.proofs.Common.{subst, ◌∙◌}
-use mathlib.Core.List.{List, [], ◌∷◌}
+use Rattle.std.specs.Prelude.{◌≡◌}
 use Prim.Native.Nat.{ℕ, ◌+◌, ◌<◌}
-use Rattle.algebra.specs.Ring as Ring
-use Rattle.algebra.specs.Ring.{CommRing, Decides, Cancels, Nontrivial}
-use Rattle.algebra.specs.Solver.{◌⊠◌, ①, v0, v1, v2, v3, ring}
-use Rattle.algebra.specs.Sum.{sum_cong, mul_sum}
-use Rattle.algebra.specs.Series.{constant}
-use Rattle.algebra.specs.Polynomial.{Poly, poly_constant}
-use Rattle.algebra.specs.Evaluation.{value, Evaluates, evaluates_value}
-use Rattle.algebra.specs.Root.{lin}
-use Rattle.algebra.specs.Linears.{All, all_nil, all_cons}
-use Rattle.algebra.specs.Matrix.{Row, Matrix, vmul, mmul, beside, vmul_cong, vmul_scale, vmul_assoc}
-use Rattle.algebra.specs.Det.{det}
+use Rattle.algebra.specs.Ring.{CommRing}
+use Rattle.algebra.specs.Polynomial.{Poly}
+use Rattle.algebra.specs.Matrix.{Row, Matrix, mmul, beside}
 use Rattle.algebra.specs.PolyMatrix.{values}
-use Rattle.algebra.specs.Dependence.{Independent, Combines, combines_beside}
+use Rattle.algebra.specs.Dependence.{Independent}
 
 module _ (S : CommRing) where
   open S use {◌⊗◌}

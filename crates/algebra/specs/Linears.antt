@@ -1,19 +1,12 @@
 -- Products of linear factors X − a.
 --   All Q l                  every member of a list is in Q
 --   joined n r               the lists r 0, …, r (n − 1) one after the other
-use Rattle.std.specs.Prelude.{◌≡◌, ◌≢◌, length, replicate}
-use Rattle.std.proofs.Math.Path.{refl, sym, ap, ap₂, subst}
-use Rattle.std.proofs.Common.{◌∙◌, le_of_suc-le-suc, not-suc-le-zero, arith}
-use Rattle.std.proofs.Math.Logic.{inl, inr}
+use Rattle.std.specs.Prelude.{◌≡◌, length, replicate}
+use Rattle.std.proofs.Math.Path.{refl, ap₂}
 use mathlib.Core.List.{List, [], ◌∷◌, ◌++◌}
 use Prim.Native.Nat.{ℕ, zero, suc, ◌<◌, suc-le-suc}
 use Rattle.std.proofs.Math.Nat as Nat
-use Rattle.algebra.specs.Ring as Ring
-use Rattle.algebra.specs.Ring.{CommRing, Decides, Cancels, Nontrivial, power}
-use Rattle.algebra.specs.Series.{convolve, constant, shift}
-use Rattle.algebra.specs.Polynomial.{Below, below_mono, below_constant, Poly}
-use Rattle.algebra.specs.Evaluation.{Evaluates}
-use Rattle.algebra.specs.Root.{lin, lin_zero, below_lin}
+use Rattle.algebra.specs.Ring.{CommRing}
 
 -- Every member of a list is in Q.
 pub data All {A : Type 0} (Q : A → Type 0) : List A → Type 0 where

@@ -1,12 +1,10 @@
 -- Rows and matrices of polynomials: their series, their values at a point, and products, determinants and adjugates as polynomials.
 --   values a P               the values of the entries at a
-use Rattle.std.specs.Prelude.{ℕ, ◌<◌}
+use Rattle.std.specs.Prelude.{ℕ}
 use Rattle.algebra.specs.Ring.{CommRing}
-use Rattle.algebra.specs.Polynomial.{Poly, Bounded, poly_bounded, bounded_poly}
-use Rattle.algebra.specs.Evaluation.{value, Evaluates, evaluates_value}
-use Rattle.algebra.specs.Matrix.{Row, Matrix, vmul, unit, vmul_related, unit_related}
-use Rattle.algebra.specs.Det.{det}
-use Rattle.algebra.specs.Adjugate.{adjugate}
+use Rattle.algebra.specs.Polynomial.{Poly}
+use Rattle.algebra.specs.Evaluation.{value}
+use Rattle.algebra.specs.Matrix.{Matrix}
 
 module _ (R : CommRing) where
   open R use {C}

@@ -3,16 +3,14 @@
 --   Below d f                every coefficient of f from d on is 0
 --   Poly R                   a series with such a bound
 --   poly_one, poly_constant, poly_list
-use Rattle.std.specs.Prelude.{◌≡◌, ◌≢◌, ◌⊎◌, List, length, get_or}
+use Rattle.std.specs.Prelude.{◌≡◌, List, length, get_or}
 use Rattle.std.proofs.Math.Path.{refl}
-use Rattle.std.proofs.Common.{sym, ap, ap₂, ◌∙◌, inl, inr, le_of_suc-le-suc, not-suc-le-zero, le_trans, lt_of_not-le, eq-or-lt_of_le, arith}
-use Prim.Native.Nat.{ℕ, zero, suc, ◌+◌, ◌≤◌, ◌<◌, max, zero-le, suc-le-suc}
+use Rattle.std.proofs.Common.{sym, ap, ◌∙◌, inl, inr, le_of_suc-le-suc, not-suc-le-zero, le_trans, eq-or-lt_of_le}
+use Prim.Native.Nat.{ℕ, zero, suc, ◌≤◌, ◌<◌, max, zero-le, suc-le-suc}
 use Rattle.std.proofs.Math.Nat.{le-max_left, le-max_right}
-use Rattle.std.proofs.Math.Decide.{dec_le}
 use Rattle.std.proofs.Math.ListN.{get_or-eq_default}
-use Rattle.algebra.specs.Ring as Ring
-use Rattle.algebra.specs.Ring.{CommRing, RingRelation, Decides, Cancels}
-use Rattle.algebra.specs.Series.{series_ext, convolve_vanishes, constant, X}
+use Rattle.algebra.specs.Ring.{CommRing}
+use Rattle.algebra.specs.Series.{series_ext, constant, X}
 
 -- The greatest of b 0, …, b (n − 1); 0 where there is none.
 unfoldable pub maximum : ℕ → (ℕ → ℕ) → ℕ

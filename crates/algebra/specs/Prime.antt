@@ -3,12 +3,11 @@
 --   prime_mod_pos            no number between 1 and a prime divides it
 --   euclid                   a prime that divides a product divides a factor
 --   prime_of_no_small_divisor     it is enough to look at the d with d · d ≤ n
-use Rattle.std.specs.Prelude.{◌≡◌, ◌≢◌, ◌⊎◌, ◌↔◌, ℕ, zero, suc, ◌+◌, ◌*◌, ◌/◌, ◌%◌, ◌≤◌, ◌<◌}
-use Rattle.std.proofs.Common.{sym, ap, ◌∙◌, inl, inr, suc-le-suc, one-mul, mul-one, add-mul, mul_assoc, mod-lt, not-suc-le-zero, mul-le-mul_left, mul-le-mul_right, pos_of_ne-zero, le_of_lt, ne_of_gt, le_trans, le_of_eq, arith}
+use Rattle.std.specs.Prelude.{◌≡◌, ◌⊎◌, ℕ, zero, suc, ◌+◌, ◌*◌, ◌/◌, ◌%◌, ◌≤◌, ◌<◌}
+use Rattle.std.proofs.Common.{sym, ap, ◌∙◌, inl, inr, one-mul, mul-one, add-mul, mul_assoc, mod-lt, mul-le-mul_right, pos_of_ne-zero, le_of_lt, le_trans, le_of_eq, arith}
 use Rattle.std.proofs.Math.Logic.{by_cases}
-use Rattle.std.proofs.Math.Logic.Dec
 use Rattle.std.specs.Int.{◌∣◌}
-use Rattle.std.proofs.Math.Nat.{mod-add-div', emod_pos_of_not-dvd, lt_of_mul-lt-mul_left, le_of_dvd, dvd-mul_right, dvd-mul_left_of_dvd, dvd-add_iff_left, dvd_of_mod-eq-zero, mod-eq-zero_of_dvd, mul-div_cancel', pos_of_dvd_of_pos, dvd-mul_left}
+use Rattle.std.proofs.Math.Nat.{mod-add-div', emod_pos_of_not-dvd, lt_of_mul-lt-mul_left, dvd-mul_right, dvd-mul_left_of_dvd, dvd-add_iff_left, dvd_of_mod-eq-zero, mul-div_cancel', pos_of_dvd_of_pos, dvd-mul_left}
 use Rattle.std.proofs.Math.Decide.{ℕ_discrete, dec_le, dec_dvd}
 
 -- A prime number is at least 2, and no number but 1 and itself divides it.

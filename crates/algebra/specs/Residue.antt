@@ -17,7 +17,7 @@ use Rattle.std.proofs.Math.Nat.{ℕ_set, mod-lt, mod-mod, mod-add-mod, zero-mod,
 use Rattle.std.proofs.Math.Bridge.{le_prop}
 use native.Mathlib.Fin
 use Rattle.std.proofs.Math.Decide.{ℕ_discrete, Fin-discrete}
-use Rattle.algebra.specs.Ring.{CommRing, Decides, Cancels, Nontrivial, Inverts, neg_unique, mul_neg, mul_left_comm, one_mul, cancels_of_inverts}
+use Rattle.algebra.specs.Ring.{CommRing, Decides, Nontrivial, Inverts, neg_unique, mul_neg, mul_left_comm, one_mul}
 use Rattle.algebra.specs.Prime.{Prime, prime_mod_pos, mul_by_mod_div}
 
 -- The residues modulo p: the numbers below p, or below 1 where p is 0.

@@ -2,17 +2,15 @@
 -- a power of X beside it: the case of the root 0.
 --   lin a                    X − a
 --   quo d a f                the quotient by X − a of f, of which d is a bound
-use Rattle.std.specs.Prelude.{◌≡◌, ◌≢◌, ◌↔◌}
-use Rattle.std.proofs.Math.Path.{refl, sym, ap, ap₂}
-use Rattle.std.proofs.Common.{subst, ◌∙◌, le_of_suc-le-suc, not-suc-le-zero, le_trans, le-add_left, arith}
-use Prim.Native.Nat.{ℕ, zero, suc, ◌+◌, ◌<◌, pred, suc-le-suc}
-use Rattle.std.proofs.Math.Nat as Nat
-use Rattle.std.proofs.Math.Nat.{le-suc}
+use Rattle.std.specs.Prelude.{◌≡◌}
+use Rattle.std.proofs.Math.Path.{refl}
+use Rattle.std.proofs.Common.{le_of_suc-le-suc, not-suc-le-zero, le_trans, le-add_left}
+use Prim.Native.Nat.{ℕ, zero, suc, ◌+◌}
 use Rattle.algebra.specs.Ring as Ring
 use Rattle.algebra.specs.Ring.{CommRing, Decides, Cancels, Nontrivial, power}
-use Rattle.algebra.specs.Series.{series_ext, tail, convolve, constant, X, shift, shift_below}
+use Rattle.algebra.specs.Series.{series_ext, tail, constant, X}
 use Rattle.algebra.specs.Polynomial.{Below, below_constant, Poly}
-use Rattle.algebra.specs.Evaluation.{ev, ev_vanishes, Evaluates}
+use Rattle.algebra.specs.Evaluation.{ev}
 
 module _ (R : CommRing) where
   open R use {C, 𝟘, 𝟙, ◌⊕◌, ◌⊗◌, ⊖◌, add_zero, add_neg}

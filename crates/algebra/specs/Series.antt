@@ -4,14 +4,12 @@
 --   convolve f g             the product, by recursion on the coefficient
 --   constant c, X            the series c and the variable
 --   shift d f                X^d · f
-use Rattle.std.specs.Prelude.{◌≡◌, ◌≢◌}
+use Rattle.std.specs.Prelude.{◌≡◌}
 use Rattle.std.proofs.Math.Path.{refl, sym, ap, ap₂, fun_ext}
-use Rattle.std.proofs.Common.{◌∙◌, le_of_suc-le-suc, not-suc-le-zero, arith}
-use mathlib.Core.HLevel.{→_set}
+use Rattle.std.proofs.Common.{◌∙◌, le_of_suc-le-suc, not-suc-le-zero}
 use Prim.Native.Nat.{ℕ, zero, suc, ◌+◌, ◌-◌, ◌<◌}
 use Rattle.std.proofs.Math.Nat as Nat
-use Rattle.algebra.specs.Ring as Ring
-use Rattle.algebra.specs.Ring.{CommRing, power}
+use Rattle.algebra.specs.Ring.{CommRing}
 use Rattle.algebra.specs.Sum.{sum}
 
 module _ (R : CommRing) where

@@ -4,20 +4,13 @@
 --   once b                   1 where b holds, and else 0: by how much a step raises a degree or an order
 --   cleared, next            M less w·M, and that with the pivots multiplied by X
 --   Choice                   what pivots and constants a step may take
-use Rattle.std.specs.Prelude.{◌≡◌, refl, ◌≢◌, Bool, true, false, ℤ, pos}
-use Rattle.std.proofs.Math.Path.{sym, ap, ap₂}
-use Rattle.std.proofs.Common.{◌∙◌}
-use Prim.Native.Nat.{ℕ, zero, ◌+◌, ◌<◌}
-use Rattle.algebra.specs.Ring.{CommRing, power}
+use Rattle.std.specs.Prelude.{◌≡◌, ◌≢◌, Bool, true, false, ℤ}
+use Prim.Native.Nat.{ℕ, ◌<◌}
+use Rattle.algebra.specs.Ring.{CommRing}
 use Rattle.algebra.specs.Integer.{More}
-use Rattle.algebra.specs.Sum.{sum_cong}
-use Rattle.algebra.specs.Series.{series_ext, constant, shift, X}
-use Rattle.algebra.specs.Matrix.{Row, Matrix, beside, unit, vmul, mmul, unit_vmul, vmul_cong, vmul_add, vmul_scale, vmul_assoc}
-use Rattle.algebra.specs.Det.{det}
-use Rattle.algebra.specs.Dependence.{Independent}
-use Rattle.algebra.specs.Degree.{coefficient}
-use Rattle.algebra.specs.OrderBasis.{Monomial}
-use Rattle.algebra.specs.Clearing.{vmul_neg, Clears, less}
+use Rattle.algebra.specs.Series.{shift}
+use Rattle.algebra.specs.Matrix.{Row, Matrix, vmul}
+use Rattle.algebra.specs.Clearing.{Clears}
 
 -- 1 where b holds, and else 0.
 abbrev pub once : Bool → ℕ

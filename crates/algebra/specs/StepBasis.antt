@@ -1,20 +1,12 @@
 -- What the basis iteration keeps: the identity has it, each step keeps it, and it does not depend on F from the orders on.
 --   choice_local         what a choice and a basis depend on
-use Rattle.std.specs.Prelude.{◌≡◌, Bool, true, [], ◌∷◌, ℤ, pos, ◌+ℤ◌, ◌-ℤ◌}
-use Rattle.std.proofs.Math.Path.{refl, sym, ap, ap₂, subst}
-use Rattle.std.proofs.Common.{◌∙◌, inl, inr, zero-add as nat_zero_add, arith}
-use Prim.Native.Nat.{ℕ, zero, suc, ◌+◌, ◌<◌}
-use Rattle.algebra.specs.Ring as Ring
-use Rattle.algebra.specs.Ring.{CommRing, Decides, Cancels, Nontrivial}
-use Rattle.algebra.specs.Solver.{v0, v1, v2, ◌⊞◌, ◌⊠◌, ⊟◌, ring}
-use Rattle.algebra.specs.Sum.{sum, sum_cong, sum_add, zeros_or_not}
-use Rattle.algebra.specs.Series.{constant}
-use Rattle.algebra.specs.Matrix.{Row, Matrix, Same, beside, beside_same, unit, vmul, mmul, vmul_unit, vmul_cong, vmul_zero, vmul_assoc, unit_related}
-use Rattle.algebra.specs.Det.{det_local}
-use Rattle.algebra.specs.Dependence.{Combines, Independent, independent_local, combines_beside}
-use Rattle.algebra.specs.Degree.{AtMost, coefficient}
-use Rattle.algebra.specs.OrderBasis.{Monomial}
-use Rattle.algebra.specs.Step.{once, next, Choice}
+use Rattle.std.specs.Prelude.{◌≡◌, Bool, true, ℤ, pos, ◌+ℤ◌}
+use Rattle.std.proofs.Math.Path.{refl, sym, ap, ap₂}
+use Rattle.std.proofs.Common.{◌∙◌}
+use Prim.Native.Nat.{ℕ, ◌<◌}
+use Rattle.algebra.specs.Ring.{CommRing}
+use Rattle.algebra.specs.Matrix.{Row, Matrix, vmul, vmul_cong}
+use Rattle.algebra.specs.Step.{Choice}
 
 module _ (R : CommRing) where
   open R use {𝟘, ◌⊕◌, ◌⊗◌, ⊖◌, add_zero}

@@ -3,22 +3,19 @@
 --   Permutation n σ          σ takes each number below n to one below n, no two to the same
 --   det_permutation          a determinant other than 0 has in each row an entry other than 0, no two in one column
 --   sum_more                 sums of integers of which each is at most another
-use Rattle.std.specs.Prelude.{◌≡◌, ◌≢◌, [], ◌∷◌, ℤ, pos, ◌+ℤ◌, ◌-ℤ◌}
+use Rattle.std.specs.Prelude.{◌≡◌, ◌≢◌, [], ◌∷◌, ℤ, pos, ◌+ℤ◌}
 use Rattle.std.proofs.Math.Path.{refl, sym, ap}
-use Rattle.std.proofs.Common.{ap₂, subst, ◌∙◌, le_of_suc-le-suc, not-suc-le-zero, zero-lt-suc, arith}
+use Rattle.std.proofs.Common.{ap₂, ◌∙◌, le_of_suc-le-suc, not-suc-le-zero, zero-lt-suc, arith}
 use Rattle.std.proofs.Math.Logic.{inl, inr}
 use Prim.Native.Nat.{ℕ, zero, suc, ◌+◌, ◌<◌, suc-le-suc}
-use Rattle.std.proofs.Math.Decide.{dec_lt}
-use Rattle.std.proofs.Math.IntN.{+ℤ_idr, +ℤ_assoc, -ℤ-+ℤ_cancel, +ℤ_comm}
+use Rattle.std.proofs.Math.IntN.{+ℤ_idr}
 use Rattle.algebra.specs.Ring as Ring
 use Rattle.algebra.specs.Ring.{CommRing, Decides, Cancels, sign}
 use Rattle.algebra.specs.Solver.{v0, v1, v2, v3, ◌⊞◌, ring}
-use Rattle.algebra.specs.Integer.{Integers, More, more_none}
+use Rattle.algebra.specs.Integer.{Integers, More}
 use Rattle.algebra.specs.Sum.{skip, skip_ne, skip_injective, skip_below, sum, sum_zero, sum_apart, zeros_or_not}
-use Rattle.algebra.specs.Polynomial.{Poly}
-use Rattle.algebra.specs.Matrix.{Matrix, cons, vmul, mmul}
-use Rattle.algebra.specs.Det.{minor, det, det_local}
-use Rattle.algebra.specs.Degree.{AtMost, coefficient, coefficient_ne_zero}
+use Rattle.algebra.specs.Matrix.{Matrix, cons}
+use Rattle.algebra.specs.Det.{minor, det}
 
 -- PERMUTATIONS
 

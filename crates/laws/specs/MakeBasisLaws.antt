@@ -2,7 +2,7 @@
 --   basis_unread_case, basis_no_room_case, basis_made_case   the three cases of an answer, each with the buffer
 --   basis_written_passed     the file written is passed by the judge for the problem cut to the steps done
 use Rattle.std.specs.Prelude.{◌≡◌, refl, Bool, true, false, List, ◌++◌, ℕ, ◌≤◌, ◌<◌, leb, length, drop}
-use Rattle.std.proofs.Common.{sym, subst, ◌∙◌, arith, le-leb}
+use Rattle.std.proofs.Common.{◌∙◌, le-leb}
 use Rattle.std.proofs.Math.Path.{ap}
 use Rattle.std.proofs.lemmas.Bool.{lt-leb}
 use Rattle.std.proofs.Math.ListN.{take}
@@ -13,7 +13,7 @@ use Rattle.rules.specs.Files.{read_problem}
 use Rattle.rules.specs.Writer.{write_problem}
 use Rattle.rules.specs.Verdict.{verdict, passed}
 use Rattle.rules.specs.Maker.{cut_problem, make_answer}
-use Rattle.rules.specs.MakeBasis.{BasisAnswer, basis_unread, basis_no_room, basis_made, MadeBasis, made_file, make_basis}
+use Rattle.rules.specs.MakeBasis.{basis_unread, basis_no_room, basis_made, MadeBasis, made_file, make_basis}
 use Rattle.laws.specs.Ranges.{problem_valid}
 use Rattle.laws.specs.MakerPasses.{made_file_passed}
 

@@ -3,14 +3,14 @@
 --   verdict_after_problem    the verdict on two files, the first of which is read, is that on the second after the first
 --   form_order, form_shift, form_coefficient     what the form of a problem holds at each place
 use Rattle.std.specs.Prelude.{◌≡◌, refl, List, [], ◌∷◌, ◌++◌, ℕ, zero, suc, ◌/◌, ◌<◌, ℤ, pos, get_or}
-use Rattle.std.proofs.Common.{sym, ap, ap₂, ◌∙◌, arith}
+use Rattle.std.proofs.Common.{sym, ap, ◌∙◌, arith}
 use Rattle.rules.specs.Sizes.{most_rows, most_order}
 use Rattle.rules.specs.Claim.{Problem, Answer, Claim}
 use Rattle.rules.specs.Table.{table, get_or_table}
 use Rattle.rules.specs.Matrices.{order, shift, at}
 use Rattle.rules.specs.Reader.{Place, Result, refused, got, next, front}
-use Rattle.rules.specs.Files.{PR_mark, OR_mark, SH_mark, FC_mark, answer_reader, read_problem, read_claim, claim_for}
-use Rattle.rules.specs.Writer.{bytes, write_each, write_all, unsigned, write_PR, write_OR, write_SH, write_FC, write_problem}
+use Rattle.rules.specs.Files.{PR_mark, OR_mark, SH_mark, FC_mark, answer_reader, read_problem, claim_for}
+use Rattle.rules.specs.Writer.{bytes, write_each, unsigned, write_PR, write_OR, write_SH, write_FC, write_problem}
 use Rattle.laws.specs.ByteNumbers.{AllBytes}
 use Rattle.laws.specs.BothFiles.{after_problem}
 use Rattle.rules.specs.Verdict.{Verdict, unread, judge_claim, verdict}

@@ -26,7 +26,7 @@ use Rattle.algebra.proofs.Degree.{EntriesAtMost, leading, degree_of_det}
 use Rattle.algebra.proofs.PolyMatrix.{entries}
 use Rattle.rules.specs.Claim.{Problem}
 use Rattle.rules.specs.Matrices.{shift, at, matrix_P}
-use Rattle.rules.specs.Conditions.{shifted_degree_of, row_degree_of, row_degree, leading_coefficient, leading_matrix, reduced, determinant, less}
+use Rattle.rules.specs.Conditions.{shifted_degree_of, row_degree_of, row_degree, leading_coefficient, leading_matrix, reduced, determinant}
 use Rattle.rules.specs.Conditions.{degree_sum_of, degree_sum}
 use Rattle.laws.specs.BoolLaws.{false_iff, not_iff}
 use Rattle.laws.specs.SearchLaws.{is_zero_iff}

@@ -2,34 +2,18 @@
 -- Here the rule stands as it was, and it is proved what stays: a P that was reduced is reduced, with the same row degrees and the same Δ,
 -- so that every verdict but 9 stays. Not every 9 stays: the claim that L2 tells of is one.
 --   verdict_kept, passed_before          every verdict but 9 stays; files that passed pass, with the same Δ
-use Rattle.std.specs.Prelude.{◌≡◌, ◌≢◌, List, ℕ, zero, suc, pred, ◌<◌, ℤ, ◌+ℤ◌, ◌-ℤ◌, length}
+use Rattle.std.specs.Prelude.{◌≡◌, ◌≢◌, List, ℕ, ◌<◌}
 use Rattle.std.proofs.Math.Path.{refl, ap}
 use Rattle.std.proofs.Common.{sym, ◌∙◌, le_of_lt, suc-ne-zero}
-use Rattle.std.proofs.Math.Option.{Option, none, some, get_or, some-ne-none}
-use Rattle.std.proofs.Math.IntN.{pos, +ℤ_idr}
-use Rattle.algebra.specs.Integer.{Integers}
 use Rattle.algebra.specs.Sum.{sum}
-use Rattle.algebra.specs.Matrix.{Matrix}
-use Rattle.algebra.specs.Det.{det, det_local}
-use Rattle.algebra.proofs.Adjugate.{det_zero_row}
-use Rattle.algebra.specs.Degree.{coefficient, coefficient_zeros}
-use Rattle.algebra.proofs.Degree.{leading}
-use Rattle.algebra.proofs.Predictable.{row_coefficient_above}
 use Rattle.rules.specs.Claim.{Claim}
-use Rattle.rules.specs.Matrices.{shift, at}
-use Rattle.rules.specs.Conditions.{shifted_degree_of, largest, row_degree_of, row_degree, leading_matrix, degree_sum}
 use Rattle.rules.specs.Reader.{Place, got}
 use Rattle.rules.specs.Files.{read_claim}
 use Rattle.rules.specs.Verdict.{Verdict, passed, unread, not_reduced, not_monomial, below_order, at_order, low_rank, numbers, judge_claim}
 use Rattle.rules.specs.Verdict.{verdict}
 use Rattle.laws.specs.VerdictLaws.{verdict_of_claim}
 use Rattle.laws.specs.Ranges.{claim_valid}
-use Rattle.laws.specs.DegreeLaws.{largest_is, largest_above, largest_none, shifted_is}
-use Rattle.laws.specs.ReducedLaws.{no_degree_zero, entry_at_most, degree_sum_is}
-use Rattle.rules.specs.Run.{run_verdict}
-use Rattle.rules.specs.Requested.{lab}
-use Rattle.meaning.specs.Generating.{field_of, series_P}
-use Rattle.meaning.specs.Verdicts.{Reduced, SaysBy, Says}
+use Rattle.meaning.specs.Verdicts.{Says}
 use Rattle.meaning.proofs.Verdicts.{judge_claim_meaning}
 use Rattle.meaning.specs.Before.{SaidBefore, reduced_kept, degree_sum_kept}
 

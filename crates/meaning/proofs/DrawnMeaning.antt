@@ -18,26 +18,24 @@ use native.Mathlib.Omega.{arith}
 use Rattle.std.proofs.Math.ListN.{get_or}
 use Rattle.algebra.specs.Ring as Ring
 use Rattle.algebra.specs.Prime.{Prime}
-use Rattle.algebra.specs.Residue.{Residue, red, red_eq, red_mul, K_decides}
+use Rattle.algebra.specs.Residue.{Residue, red_eq, red_mul, K_decides}
 use Rattle.algebra.proofs.Residue.{K_cancels}
 use Rattle.algebra.specs.Count.{count, count_most}
 use Rattle.algebra.specs.Sum.{sum_cong, sum_zero, sum_add, neg_sum, sum_determines}
 use Rattle.algebra.specs.Polynomial.{Below}
-use Rattle.algebra.specs.Evaluation.{ev, ev_vanishes, ev_powers}
+use Rattle.algebra.specs.Evaluation.{ev_vanishes}
 use Rattle.algebra.specs.Roots.{red_distinct}
 use Rattle.algebra.proofs.Roots.{count_roots_modulo}
 use Rattle.rules.specs.Sizes.{most_order}
 use Rattle.rules.specs.Claim.{Claim}
 use Rattle.rules.specs.Matrices.{order}
-use Rattle.rules.specs.Conditions.{is_zero, some_below, sum_below}
-use Rattle.rules.specs.Reader.{Place, Result, refused, got}
-use Rattle.rules.specs.Files.{read_claim}
-use Rattle.rules.specs.Drawn.{cut, cut_row, drawn_value, every_column_zero, Drawn, may_pass, turned_away, unread, too_large, first_too_large, judge_drawn_claim}
+use Rattle.rules.specs.Conditions.{some_below}
+use Rattle.rules.specs.Drawn.{cut, cut_row, every_column_zero, Drawn, may_pass, turned_away, unread, too_large, first_too_large, judge_drawn_claim}
 use Rattle.rules.specs.Drawn.{judge_drawn}
 use Rattle.laws.specs.Valid.{Valid}
 use Rattle.laws.specs.Ranges.{claim_valid}
-use Rattle.laws.specs.BoolLaws.{true_iff, false_iff, not_iff, not_false_iff, eqb_iff, cond_cases}
-use Rattle.laws.specs.SearchLaws.{is_zero_iff, some_below_iff, some_below_false_iff}
+use Rattle.laws.specs.BoolLaws.{true_iff, false_iff, not_iff, eqb_iff, cond_cases}
+use Rattle.laws.specs.SearchLaws.{some_below_iff}
 use Rattle.laws.specs.SumLaws.{red_sum}
 use Rattle.meaning.specs.Plain.{row_times_column, row_P, column_F}
 use Rattle.meaning.specs.Generating.{field_of}

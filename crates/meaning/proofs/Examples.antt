@@ -6,9 +6,9 @@
 -- one in which the row of the larger degree has the multiplier 0.
 --   column_cancels_degree      shifts 0 and 0
 --   one_row_alone                          shifts 0 and 1
-use Rattle.std.specs.Prelude.{◌≡◌, refl, ◌≢◌, true, List, [], ◌∷◌, map, ℕ, zero, suc, ◌%◌, ◌≤◌, ◌<◌, ℤ, pos, ◌+ℤ◌, get_or}
+use Rattle.std.specs.Prelude.{◌≡◌, refl, ◌≢◌, true, List, [], ◌∷◌, ℕ, zero, suc, ◌%◌, ◌≤◌, ◌<◌, pos, ◌+ℤ◌, get_or}
 use Rattle.std.proofs.Common.{sym, ap, subst, ◌∙◌, suc-ne-zero, arith, lit<, lit≤}
-use Rattle.std.proofs.Math.Option.{Option, some, some-injective}
+use Rattle.std.proofs.Math.Option.{some-injective}
 use Rattle.algebra.specs.Prime.{Prime}
 use Rattle.algebra.proofs.Prime.{prime_iff_no_divisor}
 use Rattle.algebra.specs.Residue.{K, red, red_eq, K_nontrivial}
@@ -20,12 +20,9 @@ use Rattle.algebra.specs.Root.{lin}
 use Rattle.algebra.proofs.Root.{root_of_multiple}
 use Rattle.algebra.specs.Evaluation.{Evaluates}
 use Rattle.algebra.proofs.Evaluation.{evaluates_unique, evaluates_constant}
-use Rattle.rules.specs.Claim.{Claim}
 use Rattle.rules.specs.Matrices.{order, at, polynomial}
-use Rattle.rules.specs.Conditions.{row_degree, reduced, sum_below}
-use Rattle.rules.specs.Verdict.{passed, judge_claim}
+use Rattle.rules.specs.Conditions.{reduced, sum_below}
 use Rattle.rules.specs.Run.{run_verdict}
-use Rattle.rules.specs.Cases.{one_by_one, two_by_one}
 use Rattle.meaning.specs.Plain.{times, row_times_column, row_P, column_F, IsMultiple, VanishesBelowOrders, Plain}
 use Rattle.meaning.proofs.Bridge.{red_row_times_column}
 use Rattle.meaning.proofs.Meaning.{pass_iff_plain}

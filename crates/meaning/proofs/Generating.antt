@@ -6,17 +6,14 @@ use Rattle.std.proofs.Math.Path.{sym, ap}
 use Rattle.std.proofs.Common.{◌∙◌}
 use Prim.Native.Nat.{ℕ, ◌%◌, ◌<◌}
 use Rattle.std.proofs.Math.ListN.{get_or}
-use Rattle.algebra.specs.Ring.{CommRing}
 use Rattle.algebra.specs.Residue.{K, red, red_eq, red_zero_iff}
 use Rattle.algebra.specs.Series.{series_ext}
 use Rattle.algebra.proofs.Series.{Series}
-use Rattle.algebra.specs.Polynomial.{Poly}
-use Rattle.algebra.specs.Matrix.{Matrix, vmul, vmul_cong}
-use Rattle.algebra.proofs.PolyMatrix.{entries, coordinates}
+use Rattle.algebra.specs.Matrix.{vmul, vmul_cong}
+use Rattle.algebra.proofs.PolyMatrix.{coordinates}
 use Rattle.algebra.proofs.Generation.{Generated}
-use Rattle.algebra.proofs.OrderBasis.{Vanishes}
 use Rattle.rules.specs.Claim.{Claim}
-use Rattle.rules.specs.Matrices.{order, at, polynomial, matrix_F, matrix_P}
+use Rattle.rules.specs.Matrices.{at, polynomial}
 use Rattle.rules.specs.Table.{length_table}
 use Rattle.meaning.specs.Plain.{row_times_column, column_P, column_F, Generates}
 use Rattle.meaning.specs.Bridge.{poly_list, row_list, polynomial_row_list}

@@ -21,11 +21,11 @@ use Rattle.algebra.proofs.Residue.{K_cancels}
 use Rattle.algebra.specs.Sum.{zeros_or_not}
 use Rattle.algebra.proofs.Series.{Series}
 use Rattle.algebra.proofs.Polynomial.{degree}
-use Rattle.algebra.specs.Matrix.{Row, Matrix, vmul}
+use Rattle.algebra.specs.Matrix.{Matrix, vmul}
 use Rattle.algebra.specs.Det.{det, det_local}
 use Rattle.algebra.proofs.Adjugate.{det_zero_row}
 use Rattle.algebra.proofs.Degree.{leading}
-use Rattle.algebra.proofs.Predictable.{RowDegree, row_degree_coefficients, row_zero_or_degree, row_degree_unique, predictable_degree}
+use Rattle.algebra.proofs.Predictable.{row_zero_or_degree, row_degree_unique, predictable_degree}
 use Rattle.algebra.proofs.Generation.{Generated}
 use Rattle.algebra.proofs.TwoBases.{same_degrees}
 use Rattle.rules.specs.Claim.{Problem, Answer, Claim}

@@ -2,18 +2,16 @@
 -- always applies.
 --   judge_claim_meaning                                      it is given exactly if that holds
 --   one_applies, verdicts_exclusive                          one holds, and no two
-use Rattle.std.specs.Prelude.{◌≡◌, refl, ◌≢◌, ◌↔◌, Bool, true, false, cond, [], ℕ, ◌+◌, ◌%◌, ◌<◌, ℤ, pos, get_or}
+use Rattle.std.specs.Prelude.{◌≡◌, refl, ◌↔◌, Bool, true, false, cond, ℕ, ◌+◌, ◌<◌, pos}
 use Rattle.std.proofs.Common.{sym, ap, subst, ◌∙◌}
 use Rattle.std.proofs.Math.Logic.Iff
 use Rattle.std.proofs.Math.Option.{Option, none, some}
 use Rattle.algebra.specs.Residue.{red, red_value, red_zero_iff, K_decides}
-use Rattle.algebra.specs.Matrix.{Matrix, mmul}
-use Rattle.algebra.specs.Det.{det}
-use Rattle.algebra.specs.Dependence.{Dependent, Independent, independent_not_dependent, not_dependent_independent}
-use Rattle.algebra.specs.OrderBasis.{Monomial}
+use Rattle.algebra.specs.Matrix.{mmul}
+use Rattle.algebra.specs.Dependence.{independent_not_dependent, not_dependent_independent}
 use Rattle.rules.specs.Claim.{Claim}
 use Rattle.rules.specs.Matrices.{order, at, product}
-use Rattle.rules.specs.Conditions.{leading_matrix, reduced, determinant, monomial_determinant, degree_sum, low_fault, order_fault, first_place, rank_matrix}
+use Rattle.rules.specs.Conditions.{reduced, monomial_determinant, degree_sum, low_fault, order_fault, first_place}
 use Rattle.rules.specs.Conditions.{rank_below}
 use Rattle.rules.specs.Verdict.{Verdict, passed, unread, not_reduced, not_monomial, below_order, at_order, low_rank, pass_with, judge_claim}
 use Rattle.rules.specs.Verdict.{by_product, by_rank}

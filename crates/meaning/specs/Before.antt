@@ -5,9 +5,9 @@
 --   SaidBefore               what each verdict said by it
 --   reduced_before_degrees   what was reduced is, with the same degrees and Δ
 --   lab_passed, lab_not_reduced_before   the claim that L2 tells of
-use Rattle.std.specs.Prelude.{◌≡◌, ◌≢◌, List, ℕ, zero, suc, pred, ◌<◌, ℤ, ◌+ℤ◌, ◌-ℤ◌, length}
+use Rattle.std.specs.Prelude.{◌≡◌, ◌≢◌, ℕ, zero, suc, pred, ◌<◌, ℤ, ◌+ℤ◌, ◌-ℤ◌, length}
 use Rattle.std.proofs.Math.Path.{refl, ap}
-use Rattle.std.proofs.Common.{sym, ◌∙◌, le_of_lt, suc-ne-zero}
+use Rattle.std.proofs.Common.{sym, ◌∙◌}
 use Rattle.std.proofs.Math.Option.{Option, none, some, get_or, some-ne-none}
 use Rattle.std.proofs.Math.IntN.{pos, +ℤ_idr}
 use Rattle.algebra.specs.Integer.{Integers}
@@ -21,18 +21,13 @@ use Rattle.algebra.proofs.Predictable.{row_coefficient_above}
 use Rattle.rules.specs.Claim.{Claim}
 use Rattle.rules.specs.Matrices.{shift, at}
 use Rattle.rules.specs.Conditions.{shifted_degree_of, largest, row_degree_of, row_degree, leading_matrix, degree_sum}
-use Rattle.rules.specs.Reader.{Place, got}
-use Rattle.rules.specs.Files.{read_claim}
-use Rattle.rules.specs.Verdict.{Verdict, passed, unread, not_reduced, not_monomial, below_order, at_order, low_rank, numbers, judge_claim}
-use Rattle.rules.specs.Verdict.{verdict}
-use Rattle.laws.specs.VerdictLaws.{verdict_of_claim}
-use Rattle.laws.specs.Ranges.{claim_valid}
+use Rattle.rules.specs.Verdict.{Verdict, passed, judge_claim}
 use Rattle.laws.specs.DegreeLaws.{largest_is, largest_above, largest_none, shifted_is}
 use Rattle.laws.specs.ReducedLaws.{no_degree_zero, entry_at_most, degree_sum_is}
 use Rattle.rules.specs.Run.{run_verdict}
 use Rattle.rules.specs.Requested.{lab}
 use Rattle.meaning.specs.Generating.{field_of, series_P}
-use Rattle.meaning.specs.Verdicts.{Reduced, SaysBy, Says}
+use Rattle.meaning.specs.Verdicts.{Reduced, SaysBy}
 
 -- THE RULE AS IT WAS
 

@@ -2,7 +2,7 @@
 -- of numbers stand for all polynomials.
 --   red_times                products
 --   poly_list, polynomial_poly_list               a list for each polynomial
-use Rattle.std.specs.Prelude.{◌≡◌, List, [], ℕ, suc, ◌-◌, ◌*◌, ◌≤◌, ◌<◌, pos}
+use Rattle.std.specs.Prelude.{◌≡◌, List, [], ℕ, suc, ◌-◌, ◌*◌, ◌≤◌, ◌<◌}
 use Rattle.std.proofs.Math.Path.{sym, ap, fun_ext}
 use Rattle.std.proofs.Common.{subst, ◌∙◌, lt_of_not-le}
 use Rattle.std.proofs.Math.Decide.{dec_le}
@@ -10,15 +10,11 @@ use Rattle.std.proofs.Math.ListN.{get_or, get_or-eq_default}
 use Rattle.algebra.specs.Residue.{K, red, red_mul, red_onto}
 use Rattle.algebra.specs.Sum.{sum_cong}
 use Rattle.algebra.specs.Series.{convolve, convolve_sum}
-use Rattle.algebra.proofs.Series.{Series}
 use Rattle.algebra.specs.Polynomial.{Poly}
-use Rattle.algebra.specs.Matrix.{vmul}
-use Rattle.algebra.specs.Degree.{coefficient}
-use Rattle.algebra.proofs.Degree.{coefficient_sum}
 use Rattle.rules.specs.Matrices.{polynomial}
 use Rattle.rules.specs.Table.{table, length_table, get_or_table}
 use Rattle.laws.specs.SumLaws.{red_sum}
-use Rattle.meaning.specs.Plain.{times, row_times_column}
+use Rattle.meaning.specs.Plain.{times}
 
 module _ (p : ℕ) where
   -- The residue of a product of polynomials is that of the product, …

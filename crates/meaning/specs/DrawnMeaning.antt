@@ -8,45 +8,30 @@
 --   FewDrawings        so of the p^m · p ways to draw u and a point, fewer than p^m times that order and one more do
 --   every_column_zero_iff       the plain words and the rules
 --   drawn_of_claim           the answer on two files is that on the claim
-use Rattle.std.specs.Prelude.{◌≡◌, refl, ◌≢◌, ◌⊎◌, ◌↔◌, true, false, cond, List, [], ltb, eqb}
-use Rattle.std.proofs.Math.Path.{sym, ap, ap₂}
-use Rattle.std.proofs.Common.{subst, ◌∙◌, le_refl, le_of_lt, lt_of_not-le, le_trans, mod-eq_of_lt, add-mul, mul-pos, mul-le-mul_left, mul-le-mul_right, lt→ltb, ltb→lt}
-use Rattle.std.proofs.Math.Logic.{inl, inr}
+use Rattle.std.specs.Prelude.{◌≡◌, ◌≢◌, ◌⊎◌, ◌↔◌, true, false, cond, List, [], eqb}
+use Rattle.std.proofs.Math.Path.{sym, ap}
+use Rattle.std.proofs.Common.{◌∙◌}
 use Rattle.std.proofs.Math.Bool.{Bool, not}
-use Rattle.std.proofs.lemmas.Bool.{false≢true}
-use Rattle.std.proofs.Math.Option.{Option, none, some}
-use Prim.Native.Nat.{ℕ, suc, ◌+◌, ◌-◌, ◌*◌, ◌%◌, ◌^◌, ◌≤◌, ◌<◌, suc-le-suc}
-use Rattle.std.proofs.Math.Nat.{le_of_suc-le-suc, pow-succ', one-le-pow}
-use Rattle.std.proofs.Math.Decide.{dec_lt, dec_le}
-use native.Mathlib.Omega.{arith}
+use Prim.Native.Nat.{ℕ, suc, ◌+◌, ◌-◌, ◌*◌, ◌%◌, ◌^◌, ◌≤◌, ◌<◌}
 use Rattle.std.proofs.Math.ListN.{get_or}
-use Rattle.algebra.specs.Ring as Ring
-use Rattle.algebra.specs.Prime.{Prime}
-use Rattle.algebra.specs.Residue.{Residue, red, red_eq, red_mul, K_decides}
-use Rattle.algebra.proofs.Residue.{K_cancels}
-use Rattle.algebra.specs.Count.{count, count_most}
-use Rattle.algebra.specs.Sum.{sum_cong, sum_zero, sum_add, neg_sum, sum_determines}
-use Rattle.algebra.specs.Polynomial.{Below}
-use Rattle.algebra.specs.Evaluation.{ev, ev_vanishes, ev_powers}
-use Rattle.algebra.specs.Roots.{red_distinct}
-use Rattle.algebra.proofs.Roots.{count_roots_modulo}
+use Rattle.algebra.specs.Residue.{Residue, red}
+use Rattle.algebra.specs.Count.{count}
+use Rattle.algebra.specs.Evaluation.{ev, ev_powers}
 use Rattle.rules.specs.Sizes.{most_order}
 use Rattle.rules.specs.Claim.{Claim}
 use Rattle.rules.specs.Matrices.{order}
 use Rattle.rules.specs.Conditions.{is_zero, some_below, sum_below}
 use Rattle.rules.specs.Reader.{Place, Result, refused, got}
 use Rattle.rules.specs.Files.{read_claim}
-use Rattle.rules.specs.Drawn.{cut, cut_row, drawn_value, every_column_zero, Drawn, may_pass, turned_away, unread, too_large, first_too_large, judge_drawn_claim}
+use Rattle.rules.specs.Drawn.{cut_row, drawn_value, every_column_zero, Drawn, may_pass, turned_away, unread, too_large, judge_drawn_claim}
 use Rattle.rules.specs.Drawn.{judge_drawn}
 use Rattle.laws.specs.Valid.{Valid}
-use Rattle.laws.specs.Ranges.{claim_valid}
-use Rattle.laws.specs.BoolLaws.{true_iff, false_iff, not_iff, not_false_iff, eqb_iff, cond_cases}
-use Rattle.laws.specs.SearchLaws.{is_zero_iff, some_below_iff, some_below_false_iff}
-use Rattle.laws.specs.SumLaws.{red_sum}
+use Rattle.laws.specs.BoolLaws.{false_iff, not_iff, not_false_iff}
+use Rattle.laws.specs.SearchLaws.{is_zero_iff, some_below_false_iff}
 use Rattle.meaning.specs.Plain.{row_times_column, row_P, column_F}
 use Rattle.meaning.specs.Generating.{field_of}
-use Rattle.meaning.specs.Verdicts.{product_number, LowFault, OrderFault, Nowhere}
-use Rattle.meaning.specs.Drawings.{sum_lists, count_lists, sum_lists_bound, SameBut, count_free_place}
+use Rattle.meaning.specs.Verdicts.{LowFault, OrderFault, Nowhere}
+use Rattle.meaning.specs.Drawings.{sum_lists, count_lists}
 
 -- IN PLAIN WORDS
 

@@ -6,28 +6,16 @@
 -- one in which the row of the larger degree has the multiplier 0.
 --   two_rows_degrees, column_cancels       shifts 0 and 0
 --   shifted_rows_degrees                           shifts 0 and 1
-use Rattle.std.specs.Prelude.{◌≡◌, refl, ◌≢◌, true, List, [], ◌∷◌, map, ℕ, zero, suc, ◌%◌, ◌≤◌, ◌<◌, ℤ, pos, ◌+ℤ◌, get_or}
-use Rattle.std.proofs.Common.{sym, ap, subst, ◌∙◌, suc-ne-zero, arith, lit<, lit≤}
-use Rattle.std.proofs.Math.Option.{Option, some, some-injective}
-use Rattle.algebra.specs.Prime.{Prime}
-use Rattle.algebra.proofs.Prime.{prime_iff_no_divisor}
-use Rattle.algebra.specs.Residue.{K, red, red_eq, K_nontrivial}
-use Rattle.algebra.specs.Sum.{sum}
-use Rattle.algebra.specs.Series.{series_ext, constant}
-use Rattle.algebra.proofs.Series.{Series}
-use Rattle.algebra.specs.Matrix.{vmul}
-use Rattle.algebra.specs.Root.{lin}
-use Rattle.algebra.proofs.Root.{root_of_multiple}
-use Rattle.algebra.specs.Evaluation.{Evaluates}
-use Rattle.algebra.proofs.Evaluation.{evaluates_unique, evaluates_constant}
+use Rattle.std.specs.Prelude.{◌≡◌, refl, List, [], ◌∷◌, map, ℕ, zero, suc, ◌%◌, ◌<◌, ℤ, pos}
+use Rattle.std.proofs.Common.{arith}
+use Rattle.std.proofs.Math.Option.{Option, some}
 use Rattle.rules.specs.Claim.{Claim}
-use Rattle.rules.specs.Matrices.{order, at, polynomial}
-use Rattle.rules.specs.Conditions.{row_degree, reduced, sum_below}
+use Rattle.rules.specs.Conditions.{row_degree, sum_below}
 use Rattle.rules.specs.Verdict.{passed, judge_claim}
 use Rattle.rules.specs.Run.{run_verdict}
 use Rattle.rules.specs.Cases.{one_by_one, two_by_one}
-use Rattle.meaning.specs.Plain.{times, row_times_column, row_P, column_F, IsMultiple, VanishesBelowOrders, Plain}
-use Rattle.meaning.specs.Least.{HasDegree, ShiftedDegree, IsLargest, combined, Least}
+use Rattle.meaning.specs.Plain.{times, row_times_column}
+use Rattle.meaning.specs.Least.{combined}
 
 -- "p = 7, m = 2, n = 1, order 2, F rows 1 and 1 + X; P rows (6 + 6X, 1) and (6X, X), C = (0, 1)", shifts 0 and 0.
 abbrev pub two_rows : Claim

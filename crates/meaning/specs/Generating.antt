@@ -1,25 +1,17 @@
 -- The generation sentence of `Plain`, which speaks of lists of numbers, is that of the theory, which speaks of polynomials over K.
 --   field_of, series_F, series_P      the field of a claim, and its matrices over the polynomials
 --   Polynomials              the sentence about polynomials
-use Rattle.std.specs.Prelude.{◌≡◌, refl, ◌↔◌, List, []}
-use Rattle.std.proofs.Math.Path.{sym, ap}
-use Rattle.std.proofs.Common.{◌∙◌}
-use Prim.Native.Nat.{ℕ, ◌%◌, ◌<◌}
-use Rattle.std.proofs.Math.ListN.{get_or}
+use Prim.Native.Nat.{ℕ}
 use Rattle.algebra.specs.Ring.{CommRing}
-use Rattle.algebra.specs.Residue.{K, red, red_eq, red_zero_iff}
-use Rattle.algebra.specs.Series.{series_ext}
+use Rattle.algebra.specs.Residue.{K}
 use Rattle.algebra.proofs.Series.{Series}
 use Rattle.algebra.specs.Polynomial.{Poly}
-use Rattle.algebra.specs.Matrix.{Matrix, vmul, vmul_cong}
+use Rattle.algebra.specs.Matrix.{Matrix}
 use Rattle.algebra.proofs.PolyMatrix.{entries, coordinates}
 use Rattle.algebra.proofs.Generation.{Generated}
 use Rattle.algebra.proofs.OrderBasis.{Vanishes}
 use Rattle.rules.specs.Claim.{Claim}
-use Rattle.rules.specs.Matrices.{order, at, polynomial, matrix_F, matrix_P}
-use Rattle.rules.specs.Table.{length_table}
-use Rattle.meaning.specs.Plain.{row_times_column, column_P, column_F, Generates}
-use Rattle.meaning.specs.Bridge.{poly_list, row_list, polynomial_row_list}
+use Rattle.rules.specs.Matrices.{order, matrix_F, matrix_P}
 
 -- The field K of a claim, …
 abbrev pub field_of : Claim → CommRing

@@ -3,26 +3,16 @@
 --   Reduced, IsMonomial, LowFault, OrderFault, FullRank      the conditions as statements about a claim
 --   FirstAt, Nowhere                                         the first place that has a fault; no place has one
 --   SaysBy, Says c v                                         what the verdict v says of the claim c
-use Rattle.std.specs.Prelude.{◌≡◌, refl, ◌≢◌, ◌↔◌, Bool, true, false, cond, [], ℕ, ◌+◌, ◌%◌, ◌<◌, ℤ, pos, get_or}
-use Rattle.std.proofs.Common.{sym, ap, subst, ◌∙◌}
-use Rattle.std.proofs.Math.Logic.Iff
-use Rattle.std.proofs.Math.Option.{Option, none, some}
-use Rattle.algebra.specs.Residue.{red, red_value, red_zero_iff, K_decides}
-use Rattle.algebra.specs.Matrix.{Matrix, mmul}
+use Rattle.std.specs.Prelude.{◌≡◌, ◌≢◌, [], ℕ, ◌+◌, ◌%◌, ◌<◌, ℤ, pos, get_or}
+use Rattle.std.proofs.Math.Option.{Option, some}
+use Rattle.algebra.specs.Matrix.{Matrix}
 use Rattle.algebra.specs.Det.{det}
-use Rattle.algebra.specs.Dependence.{Dependent, Independent, independent_not_dependent, not_dependent_independent}
+use Rattle.algebra.specs.Dependence.{Dependent, Independent}
 use Rattle.algebra.specs.OrderBasis.{Monomial}
 use Rattle.rules.specs.Claim.{Claim}
-use Rattle.rules.specs.Matrices.{order, at, product}
-use Rattle.rules.specs.Conditions.{leading_matrix, reduced, determinant, monomial_determinant, degree_sum, low_fault, order_fault, first_place, rank_matrix}
-use Rattle.rules.specs.Conditions.{rank_below}
-use Rattle.rules.specs.Verdict.{Verdict, passed, unread, not_reduced, not_monomial, below_order, at_order, low_rank, pass_with, judge_claim}
-use Rattle.rules.specs.Verdict.{by_product, by_rank}
-use Rattle.laws.specs.BoolLaws.{false_iff}
-use Rattle.laws.specs.SearchLaws.{first_place_none, first_place_some}
-use Rattle.laws.specs.ReducedLaws.{reduced_iff}
-use Rattle.laws.specs.DeterminantLaws.{monomial_determinant_iff, degree_sum_exponent}
-use Rattle.laws.specs.ProductLaws.{low_fault_iff, order_fault_iff, rank_below_iff}
+use Rattle.rules.specs.Matrices.{order}
+use Rattle.rules.specs.Conditions.{leading_matrix, determinant, degree_sum, rank_matrix}
+use Rattle.rules.specs.Verdict.{Verdict, passed, unread, not_reduced, not_monomial, below_order, at_order, low_rank}
 use Rattle.meaning.specs.Plain.{row_times_column, row_P, column_F}
 use Rattle.meaning.specs.Generating.{field_of}
 

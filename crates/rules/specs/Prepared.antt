@@ -8,7 +8,7 @@
 --   prepare_numbers          the four numbers of reading a problem into a form
 use Rattle.std.specs.Prelude.{◌≡◌, List, ℕ, ◌<◌, ℤ, get_or}
 use Rattle.rules.specs.Sizes.{most_rows, most_order}
-use Rattle.rules.specs.Claim.{Problem, Answer}
+use Rattle.rules.specs.Claim.{Problem}
 use Rattle.rules.specs.Table.{table}
 use Rattle.rules.specs.Matrices.{order, shift, at}
 use Rattle.rules.specs.Reader.{Place, Result, refused, got, front}
