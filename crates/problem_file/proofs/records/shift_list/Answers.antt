@@ -3,6 +3,7 @@
 use mathlib.Core.Path.{refl, ◌∙◌}
 use native.Mathlib.Omega.{arith}
 use lib.ListN.{length-set}
+use borrow.Author.Rules.{rules}
 use mir.Facts.{to_z-of_z}
 use mir.Syntax.{w32}
 use Rattle.storing.specs.Storing.{began, stopped, went_on, ended}
@@ -16,7 +17,7 @@ pub returns-in-Off : goal.returns-in-Off
 returns-in-Off c = stopped c.loop-i.invariant.2 c.loop-i-test.true (shift_off _ _ _ c.read_shift.ensures c.in-Off.is)
 
 pub signed16-requires : goal.signed16-requires
-signed16-requires c = two_bytes _ _ _ (λ k. omega (arith, c.shared_slice_known-1.given k)) c.read_shift.ensures c.in-Value.is
+signed16-requires c = two_bytes _ _ _ (search rules) c.read_shift.ensures c.in-Value.is
 
 pub loop-i-preserved : goal.loop-i-preserved
 loop-i-preserved c =
