@@ -20,7 +20,7 @@ module _ (R : CommRing) where
 
   infixl 70 ◌⊗◌
   -- A·adj(A) = det(A)·I.
-  pub mul_adjugate : (n : ℕ) (A : Matrix R) (i k : ℕ) → i < n → k < n → mmul R n A ((adjugate R) n A) i k ≡ det R n A ⊗ unit R i k
+  pub mul_adjugate : (n : ℕ) (A : Matrix R) (i k : ℕ) → i < n → k < n → mmul R n A (adjugate R n A) i k ≡ det R n A ⊗ unit R i k
   unfolding mmul vmul adjugate
   mul_adjugate zero A i k hi hk = absurd (not-suc-le-zero hi)
   mul_adjugate (suc n) A i k hi hk = go (ℕ_discrete i k)
@@ -38,17 +38,17 @@ module _ (R : CommRing) where
           ∙ sym (Ring.mul_zero R (det R (suc n) A))
           ∙ ap (λ x. det R (suc n) A ⊗ x) (sym (unit_off R i k ne))
 
-  adjugate_transpose : (n : ℕ) (A : Matrix R) (i j : ℕ) → (adjugate R) n (transpose A) i j ≡ (adjugate R) n A j i
+  adjugate_transpose : (n : ℕ) (A : Matrix R) (i j : ℕ) → adjugate R n (transpose A) i j ≡ adjugate R n A j i
   unfolding adjugate
   adjugate_transpose zero A i j = refl
   adjugate_transpose (suc n) A i j = ap₂ (λ x y. sign R x ⊗ y) (nat_add_comm j i) (det_transpose R n (minor i j A))
 
   -- adj(A)·A = det(A)·I.
-  pub adjugate_mul : (n : ℕ) (A : Matrix R) (i k : ℕ) → i < n → k < n → mmul R n ((adjugate R) n A) A i k ≡ det R n A ⊗ unit R i k
+  pub adjugate_mul : (n : ℕ) (A : Matrix R) (i k : ℕ) → i < n → k < n → mmul R n (adjugate R n A) A i k ≡ det R n A ⊗ unit R i k
   unfolding mmul vmul
   adjugate_mul n A i k hi hk =
-      sum_cong R n (λ j. (adjugate R) n A i j ⊗ A j k) (λ j. A j k ⊗ (adjugate R) n (transpose A) j i)
-      (λ j b. mul_comm ((adjugate R) n A i j) (A j k) ∙ ap (λ x. A j k ⊗ x) (sym (adjugate_transpose n A j i)))
+      sum_cong R n (λ j. adjugate R n A i j ⊗ A j k) (λ j. A j k ⊗ adjugate R n (transpose A) j i)
+      (λ j b. mul_comm (adjugate R n A i j) (A j k) ∙ ap (λ x. A j k ⊗ x) (sym (adjugate_transpose n A j i)))
       ∙ mul_adjugate n (transpose A) k i hk hi
       ∙ ap₂ (λ x y. x ⊗ y) (det_transpose R n A) (unit_transpose R k i)
 
@@ -61,19 +61,19 @@ module _ (R : CommRing) where
       ∙ vmul_unit R n (λ i. d ⊗ v i) j h
 
   -- (v·adj(A))·A = det(A)·v, for every row v.
-  pub row_adjugate_mul : (n : ℕ) (A : Matrix R) (v : Row R) (j : ℕ) → j < n → vmul R n (vmul R n v ((adjugate R) n A)) A j ≡ det R n A ⊗ v j
+  pub row_adjugate_mul : (n : ℕ) (A : Matrix R) (v : Row R) (j : ℕ) → j < n → vmul R n (vmul R n v (adjugate R n A)) A j ≡ det R n A ⊗ v j
   row_adjugate_mul n A v j h =
-      vmul_assoc R n n v ((adjugate R) n A) A j
-      ∙ vmul_cong R n v v (mmul R n ((adjugate R) n A) A) (λ i k. det R n A ⊗ unit R i k) j (λ i b. refl) (λ i b. adjugate_mul n A i j b h)
+      vmul_assoc R n n v (adjugate R n A) A j
+      ∙ vmul_cong R n v v (mmul R n (adjugate R n A) A) (λ i k. det R n A ⊗ unit R i k) j (λ i b. refl) (λ i b. adjugate_mul n A i j b h)
       ∙ vmul_scalar n v (det R n A) j h
 
   -- u·A = 0 gives det(A)·u = 0 …
   pub kernel_times_det : (n : ℕ) (A : Matrix R) (u : Row R) → ((j : ℕ) → j < n → vmul R n u A j ≡ 𝟘) → (i : ℕ) → i < n → det R n A ⊗ u i ≡ 𝟘
   kernel_times_det n A u h i b =
       sym (vmul_scalar n u (det R n A) i b)
-      ∙ sym (vmul_cong R n u u (mmul R n A ((adjugate R) n A)) (λ i k. det R n A ⊗ unit R i k) i (λ i b. refl) (λ k hk. mul_adjugate n A k i hk b))
-      ∙ sym (vmul_assoc R n n u A ((adjugate R) n A) i)
-      ∙ vmul_zero R n (vmul R n u A) ((adjugate R) n A) i h
+      ∙ sym (vmul_cong R n u u (mmul R n A (adjugate R n A)) (λ i k. det R n A ⊗ unit R i k) i (λ i b. refl) (λ k hk. mul_adjugate n A k i hk b))
+      ∙ sym (vmul_assoc R n n u A (adjugate R n A) i)
+      ∙ vmul_zero R n (vmul R n u A) (adjugate R n A) i h
 
   -- … so over a ring without zero divisors a row that a nonsingular matrix takes to 0 is 0.
   pub kernel_zero : Cancels R → (n : ℕ) (A : Matrix R) → det R n A ≢ 𝟘 → (u : Row R) → ((j : ℕ) → j < n → vmul R n u A j ≡ 𝟘) → (i : ℕ) → i < n → u i ≡ 𝟘

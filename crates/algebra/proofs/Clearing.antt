@@ -19,7 +19,7 @@ module _ (R : CommRing) where
   infixl 60 ◌⊕◌
   infixl 70 ◌⊗◌
   infix 80 ⊖◌
-  module _ (m : ℕ) (pivot : ℕ → Bool) (w : Matrix R) (clears : (Clears R) m pivot w) where
+  module _ (m : ℕ) (pivot : ℕ → Bool) (w : Matrix R) (clears : Clears R m pivot w) where
     -- Then w·w is 0 …
     twice : (i q k : ℕ) → i < m → q < m → k < m → w i q ⊗ w q k ≡ 𝟘
     twice i q k hi hq hk = by (pivot q) refl
@@ -29,11 +29,11 @@ module _ (R : CommRing) where
         by false e = ap (λ x. x ⊗ w q k) (clears.pivots_alone i q hi hq e) ∙ Ring.zero_mul R (w q k)
 
     -- … and I − w and I + w are inverses, …
-    inverse : (i k : ℕ) → i < m → k < m → mmul R m ((less R) w) ((less R) (λ i q. ⊖ w i q)) i k ≡ unit R i k
+    inverse : (i k : ℕ) → i < m → k < m → mmul R m (less R w) (less R (λ i q. ⊖ w i q)) i k ≡ unit R i k
     unfolding mmul vmul less
     inverse i k hi hk =
-        vmul_add R m (unit R i) (λ q. ⊖ w i q) ((less R) (λ i q. ⊖ w i q)) k
-        ∙ ap₂ (λ x y. x ⊕ y) (unit_vmul R m i ((less R) (λ i q. ⊖ w i q)) hi k)
+        vmul_add R m (unit R i) (λ q. ⊖ w i q) (less R (λ i q. ⊖ w i q)) k
+        ∙ ap₂ (λ x y. x ⊕ y) (unit_vmul R m i (less R (λ i q. ⊖ w i q)) hi k)
         (sum_cong R m (λ q. ⊖ w i q ⊗ (unit R q k ⊕ ⊖ ⊖ w q k)) (λ q. ⊖ w i q ⊗ unit R q k)
         (λ q hq. R.mul_add (⊖ w i q) (unit R q k) (⊖ ⊖ w q k)
         ∙ ap (λ x. ⊖ w i q ⊗ unit R q k ⊕ x)
@@ -48,10 +48,10 @@ module _ (R : CommRing) where
         ∙ add_zero (unit R i k)
 
     -- … so that the determinant of I − w is not 0.
-    pub det_less : Nontrivial R → det R m ((less R) w) ≢ 𝟘
+    pub det_less : Nontrivial R → det R m (less R w) ≢ 𝟘
     det_less nontrivial z =
         nontrivial (sym (det_unit R m)
-        ∙ sym (det_local R m (mmul R m ((less R) w) ((less R) (λ i q. ⊖ w i q))) (unit R) inverse)
-        ∙ det_mul R m ((less R) w) ((less R) (λ i q. ⊖ w i q))
-        ∙ ap (λ x. x ⊗ det R m ((less R) (λ i q. ⊖ w i q))) z
-        ∙ Ring.zero_mul R (det R m ((less R) (λ i q. ⊖ w i q))))
+        ∙ sym (det_local R m (mmul R m (less R w) (less R (λ i q. ⊖ w i q))) (unit R) inverse)
+        ∙ det_mul R m (less R w) (less R (λ i q. ⊖ w i q))
+        ∙ ap (λ x. x ⊗ det R m (less R (λ i q. ⊖ w i q))) z
+        ∙ Ring.zero_mul R (det R m (less R (λ i q. ⊖ w i q))))

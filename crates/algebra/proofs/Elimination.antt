@@ -30,7 +30,7 @@ module _ (R : CommRing) where
   infix 80 ⊖◌
   module _ (decides : Decides R) (inv : C → C) (inverts : Inverts R inv) where
     -- The first row's first entry is not 0: clear the column below it.
-    clear_step : (m n : ℕ) (A : Matrix R) → A zero zero ≢ 𝟘 → (Step R) m n A
+    clear_step : (m n : ℕ) (A : Matrix R) → A zero zero ≢ 𝟘 → Step R m n A
     unfolding cons skip
     clear_step m n A p =
         record {
@@ -62,7 +62,7 @@ module _ (R : CommRing) where
             (Iff.symm (dependent_clear R decides m (suc n) (A zero) multiple (λ i. A (suc i))))
 
     -- The first entry of row i is not 0: that row is brought to the front.
-    exchange_step : (m n i : ℕ) (A : Matrix R) → i < suc m → A i zero ≢ 𝟘 → (Step R) m n A
+    exchange_step : (m n i : ℕ) (A : Matrix R) → i < suc m → A i zero ≢ 𝟘 → Step R m n A
     exchange_step m n zero A h p = clear_step m n A p
     exchange_step m n (suc i) A h p =
         record {
@@ -76,7 +76,7 @@ module _ (R : CommRing) where
               ∙ sym (Ring.neg_mul R step.factor (det R m step.rest));
         }
       where
-        step : (Step R) m n (exchange zero (suc i) A)
+        step : Step R m n (exchange zero (suc i) A)
         step = clear_step m n (exchange zero (suc i) A) (λ e. p (ap (λ a. A a zero) (sym (swap_left zero (suc i))) ∙ e))
 
     -- The first column is 0, or elimination takes a step.

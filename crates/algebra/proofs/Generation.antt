@@ -74,7 +74,7 @@ module _ (R : CommRing) where
 
     module _ (decides : Decides R) (cancels : Cancels R) (nontrivial : Nontrivial R) where
       -- One root: where (X − a)·g·v = u·P, full rank at a makes X − a divide u, and it is cancelled.
-      peel_root : ((j : ℕ) → j < n → M j ≢ (Series R).𝟘) → (v : ℕ → Poly R) → IsRelation m n F M v → (a : C) → (FullRank R) m n P Q a → (g : Poly R) (u : ℕ → Poly R)
+      peel_root : ((j : ℕ) → j < n → M j ≢ (Series R).𝟘) → (v : ℕ → Poly R) → IsRelation m n F M v → (a : C) → FullRank R m n P Q a → (g : Poly R) (u : ℕ → Poly R)
           → ((j : ℕ) → j < m → vmul (Series R) m (coordinates R u) (entries R P) j ≡ lin R a ⊗ (g.series ⊗ (v j).series))
           → (j : ℕ) → j < m → vmul (Series R) m (coordinates R (λ i. poly_quo R a (u i))) (entries R P) j ≡ g.series ⊗ (v j).series
       unfolding IsRelation Independent
@@ -113,7 +113,7 @@ module _ (R : CommRing) where
 
       -- All the roots, one after the other.
       peel_roots : ((j : ℕ) → j < n → M j ≢ (Series R).𝟘) → (v : ℕ → Poly R) → IsRelation m n F M v → (c c' : C) → R.◌⊗◌ c c' ≡ 𝟙
-          → (l : List C) → All ((FullRank R) m n P Q) l → (u : ℕ → Poly R)
+          → (l : List C) → All (FullRank R m n P Q) l → (u : ℕ → Poly R)
           → ((j : ℕ) → j < m → vmul (Series R) m (coordinates R u) (entries R P) j ≡ constant R c ⊗ linears R l ⊗ (v j).series)
           → Generated m P v
       unfolding linears Generated
@@ -133,7 +133,7 @@ module _ (R : CommRing) where
 
       -- Sound: if the determinant of P is a unit times a product of linear factors, and [P(a) Q(a)] has full rank at each root, then P
       -- generates every relation.
-      pub generation_sound : ((j : ℕ) → j < n → M j ≢ (Series R).𝟘) → Splits R ((FullRank R) m n P Q) (det (Series R) m (entries R P)) → Generates m n P F M
+      pub generation_sound : ((j : ℕ) → j < n → M j ≢ (Series R).𝟘) → Splits R (FullRank R m n P Q) (det (Series R) m (entries R P)) → Generates m n P F M
       unfolding Generates
       generation_sound moduli (c, c', l, full, splits, unit_c) v rel =
           peel_roots moduli v rel c c' unit_c l full (poly_vmul R m v (poly_adjugate R m P))

@@ -55,24 +55,24 @@ module _ (R : CommRing) where
   linears_ne_zero nontrivial l h = nontrivial (sym (linears_leading l) ∙ ap (λ s. s (length l)) h)
 
   -- The product over equal lists is a power.
-  pub linears_power : (n : ℕ) (l : List C) → linears ((joined R) n (λ j. l)) ≡ power (Series R) (linears l) n
+  pub linears_power : (n : ℕ) (l : List C) → linears (joined R n (λ j. l)) ≡ power (Series R) (linears l) n
   unfolding joined linears power
   linears_power zero l = refl
-  linears_power (suc n) l = linears_append l ((joined R) n (λ j. l)) ∙ ap (λ s. linears l ⊠ s) (linears_power n l)
+  linears_power (suc n) l = linears_append l (joined R n (λ j. l)) ∙ ap (λ s. linears l ⊠ s) (linears_power n l)
 
   -- The polynomial that is the product of X − a over the a of a list.
   abbrev pub poly_linears : List C → Poly R
   poly_linears l = record { series = linears l; bound = suc (length l); below = below_linears l }
 
   -- The product over one of several lists divides that over all.
-  pub linears_joined : (n : ℕ) (r : ℕ → List C) (j : ℕ) → j < n → (q : Poly R) × (linears ((joined R) n r) ≡ linears (r j) ⊠ q.series)
+  pub linears_joined : (n : ℕ) (r : ℕ → List C) (j : ℕ) → j < n → (q : Poly R) × (linears (joined R n r) ≡ linears (r j) ⊠ q.series)
   unfolding joined
   linears_joined zero r j h = absurd (not-suc-le-zero h)
-  linears_joined (suc n) r zero h = (poly_linears ((joined R) n (λ j. r (suc j))), linears_append (r zero) ((joined R) n (λ j. r (suc j))))
+  linears_joined (suc n) r zero h = (poly_linears (joined R n (λ j. r (suc j))), linears_append (r zero) (joined R n (λ j. r (suc j))))
   linears_joined (suc n) r (suc j) h =
       let (q, e) = linears_joined n (λ j. r (suc j)) j (le_of_suc-le-suc h) in (
         poly_mul R (poly_linears (r zero)) q,
-        linears_append (r zero) ((joined R) n (λ j. r (suc j)))
+        linears_append (r zero) (joined R n (λ j. r (suc j)))
             ∙ ap (λ s. linears (r zero) ⊠ s) e
             ∙ Ring.mul_left_comm (Series R) (linears (r zero)) (linears (r (suc j))) q.series,
       )
@@ -88,7 +88,7 @@ module _ (R : CommRing) where
 
   -- The series is a unit times a product of linear factors whose roots are in Q.
   abbrev pub Splits : (C → Type 0) → (ℕ → C) → Type 0
-  Splits Q f = (c : C) × (c' : C) × (l : List C) × (All Q l) × (f ≡ constant R c ⊠ linears l) × (c ⊗ c' ≡ 𝟙)
+  Splits Q f = (c : C) × (c' : C) × (l : List C) × All Q l × (f ≡ constant R c ⊠ linears l) × (c ⊗ c' ≡ 𝟙)
 
   -- It is not 0.
   pub splits_ne_zero : Nontrivial R → (Q : C → Type 0) (f : ℕ → C) → Splits Q f → f ≢ 𝟘ₛ

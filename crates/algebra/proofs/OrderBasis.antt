@@ -37,7 +37,7 @@ module _ (R : CommRing) where
 
   -- The moduli X^d.
   abbrev pub order_moduli : (ℕ → ℕ) → Row (Series R)
-  order_moduli d j = linears R ((order_roots R) d j)
+  order_moduli d j = linears R (order_roots R d j)
 
   divide_order : (d : ℕ) (f : ℕ → C) → ((k : ℕ) → k < d → f k ≡ 𝟘) → f ≡ (Series R).◌⊗◌ (linears R (replicate d 𝟘)) (λ n. f (d + n))
   divide_order d f h = divide_power R d f h ∙ sym (shift_power R d (λ n. f (d + n))) ∙ sym (linears_replicate R d (λ n. f (d + n)))
@@ -66,7 +66,7 @@ module _ (R : CommRing) where
       ]
 
   -- A unit times a product of factors X is a nonzero constant times a power of X …
-  pub monomial_of_splits : Nontrivial R → (f : ℕ → C) → Splits R (λ a. a ≡ 𝟘) f → (Monomial R) f
+  pub monomial_of_splits : Nontrivial R → (f : ℕ → C) → Splits R (λ a. a ≡ 𝟘) f → Monomial R f
   monomial_of_splits nontrivial f (c, c', l, all, e, u) = (
     length l,
     λ z. nontrivial (sym u ∙ ap (λ x. x ⊗ c') (sym (mul_one c) ∙ ap (λ x. c ⊗ x) (sym (power_at (length l))) ∙ sym (at (length l)) ∙ z) ∙ Ring.zero_mul R c'),
@@ -77,7 +77,7 @@ module _ (R : CommRing) where
       at k = ap (λ g. g k) e ∙ constant_mul R c (linears R l) k ∙ ap (λ r. c ⊗ linears R r k) (all_equal 𝟘 l all)
 
   -- … and over a ring with inverses the other way round.
-  pub splits_of_monomial : (inv : C → C) → Inverts R inv → (f : ℕ → C) → (Monomial R) f → Splits R (λ a. a ≡ 𝟘) f
+  pub splits_of_monomial : (inv : C → C) → Inverts R inv → (f : ℕ → C) → Monomial R f → Splits R (λ a. a ≡ 𝟘) f
   splits_of_monomial inv inverts f (e, ne, others) =
       (f e, inv (f e), replicate e 𝟘, all_replicate 𝟘 e, series_ext R (λ k. at k (ℕ_discrete k e)), inverts (f e) ne)
     where
@@ -115,21 +115,21 @@ module _ (R : CommRing) where
           ∙ evidence i j hi hj)
 
       -- The determinant and the rank decide whether P generates every row whose product vanishes below the orders.
-      pub order_basis : ((Monomial R) (det (Series R) m (entries R P)) × Independent R m (m + n) at_zero)
+      pub order_basis : (Monomial R (det (Series R) m (entries R P)) × Independent R m (m + n) at_zero)
           ↔ ((v : ℕ → Poly R) → Vanishes m n (entries R F) d (coordinates R v) → Generated R m P v)
       unfolding Generates
       order_basis = (
         λ (monomial, independent) v zero_below.
             generation_sound R m n P quotient (entries R F) (order_moduli d) quotients decides cancels nontrivial
-            (λ j h. linears_ne_zero R nontrivial ((order_roots R) d j))
+            (λ j h. linears_ne_zero R nontrivial (order_roots R d j))
             (full independent (splits_of_monomial inv inverts (det (Series R) m (entries R P)) monomial))
             v ((relation_iff_vanishes m n F d v).1 zero_below),
         λ generated.
             let generates : Generates R m n P (entries R F) (order_moduli d) = λ v rel. generated v ((relation_iff_vanishes m n F d v).0 rel) in (
               monomial_of_splits nontrivial (det (Series R) m (entries R P))
-                  (generation_determinant R m n P F ((order_roots R) d) decides cancels nontrivial generates (λ a. a ≡ 𝟘) (λ j h. all_replicate 𝟘 (d j))),
+                  (generation_determinant R m n P F (order_roots R d) decides cancels nontrivial generates (λ a. a ≡ 𝟘) (λ j h. all_replicate 𝟘 (d j))),
               independent_local R m (m + n) (beside m (values R 𝟘 P) (values R 𝟘 quotient)) at_zero same_at_zero
-                  (generation_rank R m n P F ((order_roots R) d) decides cancels nontrivial generates quotient quotients 𝟘),
+                  (generation_rank R m n P F (order_roots R d) decides cancels nontrivial generates quotient quotients 𝟘),
             ),
       )
         where

@@ -52,6 +52,6 @@ module _ (R : CommRing) where
 
   -- The product of a row that evaluates to u and a matrix evaluates to the product of u and the values.
   pub evaluates_vmul : (m : ℕ) (a : C) (v : ℕ → Poly R) (u : Row R) (P : ℕ → ℕ → Poly R) (j : ℕ) → ((i : ℕ) → i < m → Evaluates R a (v i).series (u i))
-      → Evaluates R a (vmul (Series R) m (coordinates v) (entries P) j) (vmul R m u ((values R) a P) j)
+      → Evaluates R a (vmul (Series R) m (coordinates v) (entries P) j) (vmul R m u (values R a P) j)
   evaluates_vmul m a v u P j h =
-      vmul_related (Series R) R (Evaluates R a) (evaluation R a) m (coordinates v) u (entries P) ((values R) a P) j h (λ i b. evaluates_value R a (P i j))
+      vmul_related (Series R) R (Evaluates R a) (evaluation R a) m (coordinates v) u (entries P) (values R a P) j h (λ i b. evaluates_value R a (P i j))

@@ -36,33 +36,33 @@ module _ (R : CommRing) where
   infixl 70 ◌⊠◌
   infix 80 ⊟◌
   -- The series 0 has every bound.
-  pub below_zero : (d : ℕ) → (Below R) d 𝟘ₛ
+  pub below_zero : (d : ℕ) → Below R d 𝟘ₛ
   below_zero d k b = refl
 
   -- A bound of two series is one of their sum.
-  pub below_add : {d : ℕ} (f g : ℕ → C) → (Below R) d f → (Below R) d g → (Below R) d (f ⊞ g)
+  pub below_add : {d : ℕ} (f g : ℕ → C) → Below R d f → Below R d g → Below R d (f ⊞ g)
   below_add f g hf hg k b = ap₂ (λ x y. x ⊕ y) (hf k b) (hg k b) ∙ add_zero 𝟘
 
   -- A bound of a series is one of its negative.
-  pub below_neg : {d : ℕ} (f : ℕ → C) → (Below R) d f → (Below R) d (⊟ f)
+  pub below_neg : {d : ℕ} (f : ℕ → C) → Below R d f → Below R d (⊟ f)
   below_neg f h k b = ap (λ x. ⊖ x) (h k b) ∙ Ring.neg_zero R
 
-  below_term : {d e : ℕ} (f g : ℕ → C) → (Below R) d f → (Below R) e g → (i j : ℕ) → (i < d → e ≤ j) → f i ⊗ g j ≡ 𝟘
+  below_term : {d e : ℕ} (f g : ℕ → C) → Below R d f → Below R e g → (i j : ℕ) → (i < d → e ≤ j) → f i ⊗ g j ≡ 𝟘
   below_term {d} f g hf hg i j h = elim (dec_le d i) [
     | yes le ↦ ap (λ x. x ⊗ g j) (hf i le) ∙ Ring.zero_mul R (g j)
     | no gt ↦ ap (λ x. f i ⊗ x) (hg j (h (lt_of_not-le gt))) ∙ Ring.mul_zero R (f i)
   ]
 
   -- The bounds of the factors add up to a bound of the product.
-  pub below_mul : {d e : ℕ} (f g : ℕ → C) → (Below R) d f → (Below R) e g → (Below R) (d + e) (f ⊠ g)
+  pub below_mul : {d e : ℕ} (f g : ℕ → C) → Below R d f → Below R e g → Below R (d + e) (f ⊠ g)
   below_mul f g hf hg k b = convolve_vanishes R f g k (λ i j p. below_term f g hf hg i j (λ lt. omega arith))
 
   -- The bounds d + 1 and e + 1 give d + e + 1 …
-  pub below_mul_suc : {d e : ℕ} (f g : ℕ → C) → (Below R) (suc d) f → (Below R) (suc e) g → (Below R) (suc (d + e)) (f ⊠ g)
+  pub below_mul_suc : {d e : ℕ} (f g : ℕ → C) → Below R (suc d) f → Below R (suc e) g → Below R (suc (d + e)) (f ⊠ g)
   below_mul_suc f g hf hg k b = convolve_vanishes R f g k (λ i j p. below_term f g hf hg i j (λ lt. omega arith))
 
   -- … and the highest coefficients are multiplied.
-  pub mul_leading : {d e : ℕ} (f g : ℕ → C) → (Below R) (suc d) f → (Below R) (suc e) g → (f ⊠ g) (d + e) ≡ f d ⊗ g e
+  pub mul_leading : {d e : ℕ} (f g : ℕ → C) → Below R (suc d) f → Below R (suc e) g → (f ⊠ g) (d + e) ≡ f d ⊗ g e
   mul_leading {d} {e} f g hf hg = convolve_single R f g d e (d + e) refl (λ i j p ne. below_term f g hf hg i j (λ lt. omega arith))
 
   -- A series over a ring without zero divisors that is not 0 can be cancelled. Where g k is the first coefficient of g other than 0,
@@ -111,13 +111,13 @@ module _ (R : CommRing) where
   poly_mul f g = record { series = f.series ⊠ g.series; bound = f.bound + g.bound; below = below_mul R f.series g.series f.below g.below }
 
   -- Every operation of the ring keeps polynomials.
-  pub bounded : RingRelation (Series R) (Series R) (λ f g. (Bounded R) f)
+  pub bounded : RingRelation (Series R) (Series R) (λ f g. Bounded R f)
   bounded = record {
-    rel_zero = (bounded_poly R) poly_zero;
-    rel_one = (bounded_poly R) (poly_one R);
-    rel_add = λ {a = f} {b = g} p q. (bounded_poly R) (poly_add ((poly_bounded R) f p) ((poly_bounded R) g q));
-    rel_mul = λ {a = f} {b = g} p q. (bounded_poly R) (poly_mul ((poly_bounded R) f p) ((poly_bounded R) g q));
-    rel_neg = λ {a = f} p. (bounded_poly R) (poly_neg ((poly_bounded R) f p));
+    rel_zero = bounded_poly R poly_zero;
+    rel_one = bounded_poly R (poly_one R);
+    rel_add = λ {a = f} {b = g} p q. bounded_poly R (poly_add (poly_bounded R f p) (poly_bounded R g q));
+    rel_mul = λ {a = f} {b = g} p q. bounded_poly R (poly_mul (poly_bounded R f p) (poly_bounded R g q));
+    rel_neg = λ {a = f} p. bounded_poly R (poly_neg (poly_bounded R f p));
   }
 
   -- A polynomial is 0 or has a degree, the place of its highest coefficient other than 0.

@@ -61,7 +61,7 @@ module _ (R : CommRing) where
   lessₛ w = less (Series R) (λ i q. constant R (w i q))
 
   -- M less w·M is the product of I − w and M …
-  pub cleared_is : (m : ℕ) (w : Matrix R) (M : Matrix (Series R)) (i j : ℕ) → i < m → (cleared R) m w M i j ≡ mmul (Series R) m (lessₛ w) M i j
+  pub cleared_is : (m : ℕ) (w : Matrix R) (M : Matrix (Series R)) (i j : ℕ) → i < m → cleared R m w M i j ≡ mmul (Series R) m (lessₛ w) M i j
   unfolding cleared less mmul
   cleared_is m w M i j hi =
       series_ext R (λ k. ap (λ x. M i j k ⊕ ⊖ x) (sym (vmul_constants m (w i) M j k)))
@@ -70,23 +70,23 @@ module _ (R : CommRing) where
 
   -- … so that the step may be made on the product with F.
   cleared_product : (m : ℕ) (w : Matrix R) (P F : Matrix (Series R)) (i j : ℕ) → i < m
-      → vmul (Series R) m ((cleared R) m w P i) F j ≡ (cleared R) m w (mmul (Series R) m P F) i j
+      → vmul (Series R) m (cleared R m w P i) F j ≡ cleared R m w (mmul (Series R) m P F) i j
   unfolding mmul
   cleared_product m w P F i j hi =
-      vmul_cong (Series R) m ((cleared R) m w P i) (vmul (Series R) m (lessₛ w i) P) F F j (λ k b. cleared_is m w P i k hi) (λ k b. refl)
+      vmul_cong (Series R) m (cleared R m w P i) (vmul (Series R) m (lessₛ w i) P) F F j (λ k b. cleared_is m w P i k hi) (λ k b. refl)
       ∙ vmul_assoc (Series R) m m (lessₛ w i) P F j
       ∙ sym (cleared_is m w (mmul (Series R) m P F) i j hi)
 
   -- The product of the next matrix and F is the next of the product.
   pub next_product : (m : ℕ) (pivot : ℕ → Bool) (w : Matrix R) (P F : Matrix (Series R)) (i j : ℕ) → i < m
-      → vmul (Series R) m ((next R) m pivot w P i) F j ≡ (next R) m pivot w (mmul (Series R) m P F) i j
+      → vmul (Series R) m (next R m pivot w P i) F j ≡ next R m pivot w (mmul (Series R) m P F) i j
   unfolding next
   next_product m pivot w P F i j hi =
-      vmul_cong (Series R) m ((next R) m pivot w P i) (λ k. raise ⊠ₛ (cleared R) m w P i k) F F j
-      (λ k b. shift_power R (once (pivot i)) ((cleared R) m w P i k)) (λ k b. refl)
-      ∙ vmul_scale (Series R) m raise ((cleared R) m w P i) F j
+      vmul_cong (Series R) m (next R m pivot w P i) (λ k. raise ⊠ₛ cleared R m w P i k) F F j
+      (λ k b. shift_power R (once (pivot i)) (cleared R m w P i k)) (λ k b. refl)
+      ∙ vmul_scale (Series R) m raise (cleared R m w P i) F j
       ∙ ap (λ x. raise ⊠ₛ x) (cleared_product m w P F i j hi)
-      ∙ sym (shift_power R (once (pivot i)) ((cleared R) m w (mmul (Series R) m P F) i j))
+      ∙ sym (shift_power R (once (pivot i)) (cleared R m w (mmul (Series R) m P F) i j))
     where
       raise : ℕ → C
       raise = power (Series R) (X R) (once (pivot i))
