@@ -4,7 +4,7 @@
 --   IsRelation m n F M v     v·F is a multiple of M in each of the n columns
 --   Generated m P v          v is a sum of polynomial multiples of the rows of P
 --   Generates m n P F M      every relation is generated
---   Quotients m n P F M Q    P-as-F = Q·diag(M)
+--   Quotients m n P F M Q    P·F = Q·diag(M)
 use Rattle.std.specs.Prelude.{◌≡◌, ◌≢◌}
 use Rattle.std.proofs.Math.Path.{refl, sym, ap}
 use Rattle.std.proofs.Common.{subst, ◌∙◌}
@@ -49,7 +49,7 @@ module _ (R : CommRing) where
   unfoldable pub Generates : (m n : ℕ) → (ℕ → ℕ → Poly R) → Matrix (Series R) → Row (Series R) → Type 0
   Generates m n P F M = (v : ℕ → Poly R) → IsRelation m n F M v → Generated m P v
 
-  -- P-as-F = Q·diag(M), for polynomials.
+  -- P·F = Q·diag(M), for polynomials.
   abbrev pub Quotients : (m n : ℕ) → (ℕ → ℕ → Poly R) → Matrix (Series R) → Row (Series R) → (ℕ → ℕ → Poly R) → Type 0
   Quotients m n P F M Q = QuotientsIn (Series R) m n (entries R P) F M (λ i j. (Q i j).series)
 

@@ -1,6 +1,6 @@
 -- Polynomials over a commutative ring: series with a bound on their degree. The ring operations are those of `Series R`; a bound is
 -- kept beside a series and is not a part of it: two polynomials are the same when their series are.
---   poly_zero, poly_add, poly_mul, poly_neg,
+--   poly_zero, poly_add, poly_mul, poly_neg
 --   mul_leading              the highest coefficient of a product
 --   Series_cancels           series over a ring without zero divisors have none
 --   degree, Poly_decides     the degree of a polynomial, and whether it is 0

@@ -1,5 +1,5 @@
 -- The determinant is alternating, and every alternating function of n rows with n entries is the determinant times its value at the
--- identity. So det(A-as-B) = det A · det B, since both sides are alternating functions of the rows of A.
+-- identity. So det(A·B) = det A · det B, since both sides are alternating functions of the rows of A.
 --   det_alternating, alternating_unique, det_mul   these three
 use Rattle.std.specs.Prelude.{◌≡◌}
 use Rattle.std.proofs.Math.Path.{refl, sym, ap, subst, fun_ext}
@@ -156,7 +156,7 @@ module _ (R : CommRing) where
         map_homogeneous = λ c r j b. vmul_scale R n c r B j;
       }
 
-  -- The product rule: det(A-as-B) = det A · det B.
+  -- The product rule: det(A·B) = det A · det B.
   pub det_mul : (n : ℕ) (A B : Matrix R) → det R n (mmul R n A B) ≡ det R n A ⊗ det R n B
   unfolding mmul
   det_mul n A B =

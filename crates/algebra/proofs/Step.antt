@@ -1,7 +1,7 @@
 -- One step of the basis iteration, by order steps: some rows of P are pivots, each other row has a combination of pivot rows subtracted
 -- by which its residual vanishes, and the pivots are multiplied by X. Rows keep their places, and pivot rows do not change before the
 -- step's end, so that all subtractions of a step are one matrix of constants w.
---   residuals                the coefficients of P-as-F at the orders
+--   residuals                the coefficients of P·F at the orders
 --   Basis                    what holds of P after each step, for the orders reached and the row degrees
 --   cleared_is, next_product         a step is a product with constants, and may be made on the product with F
 use Rattle.std.specs.Prelude.{◌≡◌, refl, ◌≢◌, Bool, ℤ, pos}
@@ -32,12 +32,12 @@ module _ (R : CommRing) where
   infixl 60 ◌⊞ₛ◌
   infixl 70 ◌⊠ₛ◌
   infix 80 ⊟ₛ◌
-  -- The coefficients of P-as-F at the orders e: of row i and column j that at e j.
+  -- The coefficients of P·F at the orders e: of row i and column j that at e j.
   abbrev pub residuals : ℕ → Matrix (Series R) → (ℕ → ℕ) → Matrix (Series R) → Matrix R
   residuals m F e P i j = vmul (Series R) m (P i) F j (e j)
 
   -- What holds of P for the orders e and the row degrees r: the entries obey the degrees, with a nonsingular leading matrix; the
-  -- determinant is a nonzero constant times a power of X; P-as-F vanishes below the orders; and the rows of [P(0) C], where C holds the
+  -- determinant is a nonzero constant times a power of X; P·F vanishes below the orders; and the rows of [P(0) C], where C holds the
   -- coefficients at the orders, are independent.
   pub record Basis (m n : ℕ) (F : Matrix (Series R)) (s : ℕ → ℤ) (e : ℕ → ℕ) (r : ℕ → ℤ) (P : Matrix (Series R)) : Type 0 where
     pub bounded : EntriesAtMost R m m r s P

@@ -155,7 +155,7 @@ module _ (R : CommRing) where
   unfolding vmul
   vmul_zero m v A j h = sum_zero R m (λ i. v i ⊗ A i j) (λ i b. ap (λ x. x ⊗ A i j) (h i b) ∙ Ring.zero_mul R (A i j))
 
-  -- (v·A)·B = v·(A-as-B).
+  -- (v·A)·B = v·(A·B).
   pub vmul_assoc : (m n : ℕ) (v : Row) (A B : Matrix) (j : ℕ) → vmul n (vmul m v A) B j ≡ vmul m v (mmul n A B) j
   unfolding vmul mmul
   vmul_assoc m n v A B j =

@@ -23,7 +23,7 @@ use layout::{COLUMN_COEFFICIENTS, ENTRY_COEFFICIENTS, ORDER, ROWS, SQUARE, entry
 use pivots::choose;
 use stepping::step_rows;
 
-// products: the coefficients of P.F. head: of a problem. i, j: a row and a column. k: a power.
+// products: the coefficients of P·F. head: of a problem. i, j: a row and a column. k: a power.
 // The residual of row i at power k in column j, 0 where the column's order is not above k.
 fn residual(products: &[u32; ENTRY_COEFFICIENTS], head: Head, i: usize, j: usize, k: usize) -> u32
     requires { (i < most_rows) × ((j < most_rows) × (k < most_order)) }
@@ -41,7 +41,7 @@ fn residual(products: &[u32; ENTRY_COEFFICIENTS], head: Head, i: usize, j: usize
     products[entry_place(i, j, k)]
 }
 
-// products: the coefficients of P.F. head: of a problem. k: a power.
+// products: the coefficients of P·F. head: of a problem. k: a power.
 // "the residual at power k of the columns with order above k", and 0 elsewhere.
 fn residuals(products: &[u32; ENTRY_COEFFICIENTS], head: Head, k: usize) -> [u32; SQUARE]
     requires { (head.m ≤ most_rows) × ((head.n ≤ most_rows) × (k < most_order)) }
@@ -81,7 +81,7 @@ fn raise(degrees: &mut [i32; ROWS], moves: &[usize; ROWS], m: usize)
     }
 }
 
-// head: of a problem. k: the step. entries, products, degrees: P, P.F and the row degrees before it.
+// head: of a problem. k: the step. entries, products, degrees: P, P·F and the row degrees before it.
 // Makes the step.
 fn step(
     head: Head,

@@ -58,7 +58,7 @@ module _ (m n : ℕ) (fault : ℕ → ℕ → Bool) (Fault : ℕ → ℕ → Typ
   )
 
 module _ (c : Claim) (positive : 0 < c.problem.p) where
-  -- The coefficient of P-as-F, in K.
+  -- The coefficient of P·F, in K.
   pub red_product : (i j k : ℕ)
       → red c.problem.p (row_times_column c.problem.m (row_P c i) (column_F c j) k) ≡ product c.problem c.answer.P i j k
   unfolding product mmul

@@ -35,7 +35,7 @@ use Rattle.meaning.specs.Drawings.{sum_lists, count_lists}
 
 -- IN PLAIN WORDS
 
--- What condition 3 asks of the coefficient of P-as-F at X^k in row i and column j, for k up to the order: C's number at the order, 0 below.
+-- What condition 3 asks of the coefficient of P·F at X^k in row i and column j, for k up to the order: C's number at the order, 0 below.
 abbrev pub wanted : Claim → ℕ → ℕ → ℕ → ℕ
 wanted c i j k = cond (eqb k (order c.problem j)) (get_or (get_or c.answer.C i []) j 0) 0
 

@@ -51,7 +51,7 @@ Generates c = (v : List (List ℕ)) → length v ≡ c.problem.m → VanishesBel
 pub record Plain (c : Claim) : Type 0 where
   -- P is reduced for the shift, as document 01's condition 1 says.
   pub is_reduced : reduced c.problem c.answer.P ≡ true
-  -- Every coefficient of P-as-F below the column's order is 0 modulo p, …
+  -- Every coefficient of P·F below the column's order is 0 modulo p, …
   pub low_coefficients : (i j k : ℕ) → i < c.problem.m → j < c.problem.n → k < order c.problem j
       → row_times_column c.problem.m (row_P c i) (column_F c j) k % c.problem.p ≡ 0
   -- … and the one at the order is C's number.

@@ -29,7 +29,7 @@ IsMonomial c d =
 abbrev pub SomeMonomial : Claim → Type 0
 SomeMonomial c = Monomial (field_of c) (determinant c.problem c.answer.P)
 
--- The coefficient at X^k of the entry of P-as-F in row i and column j, modulo p.
+-- The coefficient at X^k of the entry of P·F in row i and column j, modulo p.
 abbrev pub product_number : Claim → ℕ → ℕ → ℕ → ℕ
 product_number c i j k = row_times_column c.problem.m (row_P c i) (column_F c j) k % c.problem.p
 

@@ -3,7 +3,7 @@
 --   at M i j                 the list of an entry's coefficients
 --   polynomial p l           the polynomial over K that a list stands for
 --   matrix_F b, matrix_P b P, matrix_C b C     F and P over the polynomials, C over K
---   product b P i j          the entry of P-as-F
+--   product b P i j          the entry of P·F
 use Rattle.std.proofs.Common.{ap}
 use Rattle.std.specs.Prelude.{List, [], ℕ, ℤ, pos, length, get_or}
 use Rattle.std.proofs.Math.ListN.{get_or-eq_default}
@@ -42,6 +42,6 @@ matrix_P b P i j = polynomial b.p (at P i j)
 abbrev pub matrix_C : (b : Problem) → List (List ℕ) → Matrix (K b.p)
 matrix_C b C i j = red b.p (get_or (get_or C i []) j 0)
 
--- The entry of P-as-F in row i and column j.
+-- The entry of P·F in row i and column j.
 unfoldable pub product : (b : Problem) → List (List (List ℕ)) → ℕ → ℕ → ℕ → Residue b.p
 product b P i j = mmul (Series (K b.p)) b.m (entries (K b.p) (matrix_P b P)) (entries (K b.p) (matrix_F b)) i j

@@ -1,5 +1,5 @@
 // Document 02, L7, one step on the rows of a matrix of polynomials: the combinations are subtracted, and each pivot is multiplied by X. The
-// rows of P and those of P.F change by the same step.
+// rows of P and those of P·F change by the same step.
 #![tactic(auto)]
 
 ghost use Rattle.std.specs.Prelude.{◌≡◌, ◌≢◌, ◌≤◌, ◌<◌, get_or};
