@@ -1,3 +1,4 @@
+use native.Mathlib.Omega.{arith}
 use Rattle.claim.specs.Claims.{claim_of}
 use Rattle.polynomial.specs.Count.{tests_monomial}
 use Rattle.conditions.specs.Steps.{square_of}
@@ -65,5 +66,4 @@ pub returns-in_default : goal.returns-in_default
 returns-in_default c =
     let a = c.args in
     let claimed = claim_of a.head a.f.now a.lengths.now a.entries.now a.c.now in
-    let other = c.in_default.in_default-own.rest in
-    found_nothing claimed c.args.code other.0.0.0.0.1 other.0.0.0.1 other.0.0.1 other.0.1 other.1
+    found_nothing claimed c.args.code (omega arith) (omega arith) (omega arith) (omega arith) (omega arith)
