@@ -1,4 +1,4 @@
-use native.Mathlib.Omega.{arith}
+use borrow.Author.Rules.{rules}
 use Rattle.prepared.specs.Reading.{reading_gives}
 use Rattle.prepared.proofs.prepare.Goals as goal
 
@@ -9,4 +9,4 @@ pub returns : goal.returns
 returns c =
     let s = c.args.problem.now in
     let read = c.read_problem_into.ensures in
-    record { f_after = read; gives = reading_gives s (λ i. omega (arith, c.shared_slice_known-1.given i)) read }
+    record { f_after = read; gives = reading_gives s (search rules) read }
