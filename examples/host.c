@@ -11,8 +11,8 @@
  * its line, `nofile 1` (an answer). So does one that isn't named, and one that can't be read, such as a folder. The exit status is 0 after
  * code 0, 1 after a refusal and 2 after `nofile`, and of several answers the largest.
  *
- *     rt staticlib board
- *     cc -std=c11 -Wall -Wextra -Wpedantic -Werror -Iinclude examples/host.c target/staticlib/libboard.a -o host
+ *     (cd crates/board && rt lib)
+ *     cc -std=c11 -Wall -Wextra -Wpedantic -Werror -Iinclude examples/host.c crates/board/out/libboard.a -o host
  */
 #include "board.h"
 
