@@ -1,5 +1,5 @@
 use mathlib.Core.Path.{◌≡◌}
-use Prim.Native.Nat.{ℕ, ◌-◌, ◌<◌}
+use Prim.Native.Nat.{ℕ, ◌<◌}
 use Rattle.algebra.specs.Residue.{K, red}
 use Rattle.field.proofs.inverse_by_remainders.Given as goal
 
