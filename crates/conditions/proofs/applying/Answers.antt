@@ -1,3 +1,4 @@
+use borrow.Author.Rules.{rules}
 use native.Mathlib.Omega.{arith}
 use Rattle.claim.specs.Claims.{claim_of}
 use Rattle.polynomial.specs.Count.{tests_monomial}
@@ -44,14 +45,14 @@ pub returns-in-11 : goal.returns-in-11
 returns-in-11 c =
     let a = c.args in
     let claimed = claim_of a.head a.f.now a.lengths.now a.entries.now a.c.now in
-    found_as claimed c.in-11.is c.below_order.ensures
+    found_as claimed c.in-11.is (search rules)
     (found_below a.head a.f.now a.lengths.now a.entries.now a.c.now c.requires.sound)
 
 pub returns-in-12 : goal.returns-in-12
 returns-in-12 c =
     let a = c.args in
     let claimed = claim_of a.head a.f.now a.lengths.now a.entries.now a.c.now in
-    found_as claimed c.in-12.is c.at_order.ensures
+    found_as claimed c.in-12.is (search rules)
     (found_at a.head a.f.now a.lengths.now a.entries.now a.c.now c.requires.sound)
 
 pub returns-in-13 : goal.returns-in-13
