@@ -1,7 +1,7 @@
 -- The integers as a commutative ring, so that sums of integers are `sum Integers` and their identities are proved by `ring Integers`.
 --   Integers                 the ring
 --   ℤ_induction              induction by successors and predecessors
---   *ℤ_assoc, *ℤ_+ℤ          the laws of the product beside those of lib.IntN
+--   *ℤ_assoc, *ℤ_+ℤ          the laws of the product beside those of the library
 --   nat_abs_add, nat_abs_neg   how far a sum and a negative are from 0
 --   More x y                 y is x and a natural number more: more_self, more_trans, more_either, more_none
 use Rattle.std.specs.Prelude.{◌≡◌, refl, ◌⊎◌, Bool, true, false, cond, [], ◌∷◌, ℕ, zero, suc, ◌+◌, ◌-◌, ◌≤◌, ◌<◌, T, ltb, ℤ, pos, negsuc, nat_abs, neg_ℤ, ◌+ℤ◌, ◌-ℤ◌, ◌*ℤ◌}

@@ -11,7 +11,7 @@ ghost use Rattle.cases.specs.Limits.{longest, most_lent, chunk, most_digits};
 use std::env::Env;
 use std::fs::File;
 use std::io;
-use std::io::{BufWriter, Read, Write};
+use std::io::{Read, Write};
 use std::rt::Files;
 use verdict::{Four, numbers, reply_numbers};
 use writer::{put_number, put_text};
@@ -307,9 +307,9 @@ fn run(rt: &(impl Env + Files), to: &mut impl Write) -> io::Result<bool> {
 }
 
 fn main(rt: HostRuntime) -> io::Result<()> {
-    let mut to = BufWriter::new(rt.alloc(), io::writer(&rt))?;
+    let mut to = io::writer(&rt);
     if !run(&rt, &mut to)? {
         to.write_all(b"bad bundle\n")?;
     }
-    to.flush()
+    Ok(())
 }

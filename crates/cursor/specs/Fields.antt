@@ -2,7 +2,7 @@
 --   one_to_low, one_to_high          a size test after its first half
 --   any_refused, any_passed, any_failed      a test after a field of any number
 --   tested_field             what the code makes of a number and its test's code
---   complement_low, -mid, -high      two's complement by ranges
+--   complement_low, complement_mid, complement_high      two's complement by ranges
 --   coefficient_last, coefficient_other      the test of a coefficient, of the last one and of another
 --   residue_field            a coefficient that is no entry's
 use Rattle.std.specs.Prelude.{◌≡◌, refl, ◌≢◌, Bool, true, false, cond, not, List, ℕ, suc, ◌+◌, ◌-◌, ◌≤◌, ◌<◌, leb, ltb, eqb, pos, negsuc, ◌-ℤ◌}

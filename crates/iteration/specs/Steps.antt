@@ -1,6 +1,6 @@
 -- What the functions of a step leave.
 --   residual_number, residuals_of      one residual, and all of them
---   raised-start, raised-more, raised-passed         the degrees, row by row
+--   raising_start, raising_more, raising_passed         the degrees, row by row
 --   Steps                    a step of the code is a step of the maker
 use Rattle.std.specs.Prelude.{◌≡◌, refl, ◌≢◌, Bool, List, ℕ, suc, ◌+◌, ◌/◌, ◌%◌, ◌≤◌, ◌<◌, leb, ℤ, pos, nat_abs, ◌+ℤ◌, length, get_or, set}
 use Rattle.std.proofs.Common.{sym, ap₂, subst, ◌∙◌, arith, below_more, le-leb, length-set, get_or-set_same, get_or-set_other}

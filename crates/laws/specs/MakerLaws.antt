@@ -1,5 +1,5 @@
 -- What the maker makes: after each step P is a basis of the orders reached.
---   after_entry_length, after_valid, after-entries       the entries after k steps: at most k + 1 coefficients, within their sizes
+--   after_entry_length, after_valid, after_entries       the entries after k steps: at most k + 1 coefficients, within their sizes
 --   after_product            the product with F may be kept step by step
 --   AfterBasis, after_basis  what holds of P after k steps
 --   after_degree_start, after_degree_step      the row degrees: a pivot's goes up by one, the others stay

@@ -1,5 +1,5 @@
 -- The printed lines in pieces, and how many bytes each takes.
---   numbers_room, room       what the four numbers need at most, and the line of a verdict; room-reached: some line needs all of it
+--   numbers_room, room       what the four numbers need at most, and the line of a verdict; room_reached: some line needs all of it
 --   nofile_room              what the line for a file that can't be opened needs at most: nofile_room_reached
 --   four_numbers             the four numbers with single spaces: four_numbers_length
 --   line_passed, line_refused          the two kinds of line in pieces

@@ -1,4 +1,4 @@
--- L5: what the answers by drawn numbers say, in plain words first, in numbers, lists, sums, products and remainders; then the proofs.
+-- L5: what the answers by drawn numbers say, in plain words first, in numbers, lists, sums, products and remainders. Most proofs are in proofs/DrawnMeaning.
 --   wanted, drawn_product, drawn_wanted, cut_row_nonzero      "the cut row is nonzero in some column"
 --   HasFault                 the claim has a fault of 11 or 12
 --   says_may_pass, points_that_may_pass      the answer is "may pass"; how many points give it

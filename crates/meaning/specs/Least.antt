@@ -1,6 +1,6 @@
 -- Document 02, L6, in plain words: "Say that the degrees are least." What a pass says of the degrees, in numbers, lists, sums, remainders
 -- and integers alone. A polynomial is the list of its coefficients, as in `Plain`; what is zero has no degree (L2).
---   _at-most_                the order of the integers
+--   ◌at_most◌                the order of the integers
 --   coefficients, AllZero    the coefficients of several polynomials, and that these are all zero
 --   HasDegree                the degree of a polynomial
 --   HasShiftedDegree         the degree of a row of polynomials, for shifts; ShiftedDegree of a problem's shifts

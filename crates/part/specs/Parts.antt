@@ -1,5 +1,5 @@
 -- The bytes that a verdict points at, as the code hands them back.
---   PartIn s t r q           r is the part q of the two lent files: its bytes, and where they lie; part-in-unique: both are settled
+--   PartIn s t r q           r is the part q of the two lent files: its bytes, and where they lie; part_in_unique: both are settled
 --   HasColumn s j            the problem s is read, and has a column j
 --   ColumnPart s j q         q is the `FC` record of column j of the problem s
 --   part_of                  the code's piece, as a part: part_of_injective

@@ -1,5 +1,5 @@
 -- The coefficients of F by their places: what holds of the runs that the code tests holds of each coefficient, and the other way round.
---   row_of, column_of, power_of, place-of        the row, the column and the power of a place
+--   row_of, column_of, power_of, place_of        the row, the column and the power of a place
 --   Cells p m n orders f     each coefficient that there is is below p, and all else is 0
 --   cells_of_columns, columns_of_cells           that is what the runs say
 use Rattle.std.specs.Prelude.{◌≡◌, List, ℕ, ◌+◌, ◌-◌, ◌/◌, ◌%◌, ◌≤◌, ◌<◌}

@@ -1,7 +1,7 @@
 -- What was read, in arrays, stands for itself, and is sound.
 --   problem_stands, sound_head_of, sound_columns_of        a problem
 --   Exact b head f, exact_of                               and every number of its arrays, also where it has nothing
---   basis_stands, sound-basis-of                           P
+--   basis_stands, sound_basis_of                           P
 --   constants_stands, constants_below                      C
 use Rattle.std.specs.Prelude.{◌≡◌, refl, Bool, cond, ℕ, ◌≤◌, ◌<◌, ltb, pos, nat_abs, length, get_or}
 use Rattle.std.proofs.Math.Path.{sym}
