@@ -3,11 +3,15 @@
 --   basis_of m lengths entries     P
 --   constants_of m n c             C
 --   answer_of, claim_of            the answer, and the claim
+--   problem_in b, basis_in m a, claim_in b a      the same of the code's structs, whole
 use Rattle.std.specs.Prelude.{List, ℕ, ℤ, get_or}
 use Rattle.rules.specs.Claim.{Problem, Answer, Claim}
 use Rattle.rules.specs.Table.{table}
 use Rattle.layout.specs.Flat.{square_place, length_at, shift_at, cell, column_cell}
 use Rattle.claim.specs.declared.Head.{Head}
+use Rattle.claim.specs.declared.Problem.{Problem as ProblemStruct}
+use Rattle.claim.specs.declared.Basis.{Basis as BasisStruct}
+use Rattle.claim.specs.declared.Answer.{Answer as AnswerStruct}
 
 -- The orders of the columns, …
 unfoldable pub orders_of : ℕ → List ℕ → List ℕ
@@ -45,3 +49,13 @@ answer_of head lengths entries c = record { P = basis_of head.m lengths entries;
 
 abbrev pub claim_of : Head → (f lengths entries c : List ℕ) → Claim
 claim_of head f lengths entries c = record { problem = problem_of head f; answer = answer_of head lengths entries c }
+
+-- The same of the code's structs.
+abbrev pub problem_in : ProblemStruct → Problem
+problem_in b = problem_of b.head b.f
+
+abbrev pub basis_in : ℕ → BasisStruct → List (List (List ℕ))
+basis_in m a = basis_of m a.lengths a.entries
+
+abbrev pub claim_in : ProblemStruct → AnswerStruct → Claim
+claim_in b a = claim_of b.head b.f a.basis.lengths a.basis.entries a.c

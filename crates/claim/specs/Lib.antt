@@ -1,3 +1,4 @@
 pub mod Claims
 pub mod Sound
 pub mod Holds
+pub mod Empty

@@ -3,12 +3,15 @@
 --   SoundHead, SoundColumns        of a problem: its numbers, and F
 --   SoundBasis                     of P
 --   Sound head f lengths entries c of a claim
+--   SoundProblem b, SoundClaim b a       the same of the code's structs, whole
 use Rattle.std.specs.Prelude.{◌≡◌, List, ℕ, ◌≤◌, ◌<◌, nat_abs, get_or}
 use Rattle.algebra.specs.Prime.{Prime}
 use Rattle.rules.specs.Sizes.{largest_prime, most_rows, most_shift}
 use Rattle.layout.specs.Flat.{shift_at, column_cell}
 use Rattle.layout.specs.Holds.{Each, Padded, Ordered}
 use Rattle.claim.specs.declared.Head.{Head}
+use Rattle.claim.specs.declared.Problem.{Problem}
+use Rattle.claim.specs.declared.Answer.{Answer}
 
 -- p is an allowed prime, and the sizes, the orders and the shifts are within theirs.
 pub record SoundHead (head : Head) : Type 0 where
@@ -36,3 +39,11 @@ pub record Sound (head : Head) (f lengths entries c : List ℕ) : Type 0 where
   pub sound_columns : SoundColumns head f
   pub sound_basis : SoundBasis head lengths entries
   pub C_below : Each head.p c
+
+-- The same of the code's structs: a problem, and a claim.
+pub record SoundProblem (b : Problem) : Type 0 where
+  pub sound_head : SoundHead b.head
+  pub sound_columns : SoundColumns b.head b.f
+
+abbrev pub SoundClaim : Problem → Answer → Type 0
+SoundClaim b a = Sound b.head b.f a.basis.lengths a.basis.entries a.c

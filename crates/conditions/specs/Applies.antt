@@ -5,17 +5,17 @@
 --   judged_in_order          the verdict of the rules is the first of the five from 9 on
 use Rattle.std.specs.Prelude.{◌≡◌, refl, Bool, true, false, not, cond, ℕ, zero, suc, ◌+◌, eqb}
 use Rattle.std.proofs.Common.{ap, ne_eqb}
-use Rattle.std.proofs.Math.Option.{Option, none, some}
+use Rattle.std.specs.Prelude.{Option, None, Some}
 use Rattle.rules.specs.Claim.{Claim}
 use Rattle.rules.specs.Conditions.{reduced, monomial_determinant, degree_sum, low_fault, order_fault, first_place, rank_below}
 use Rattle.rules.specs.Verdict.{Verdict, not_reduced, not_monomial, below_order, at_order, low_rank, pass_with, judge_claim, by_product, by_rank}
 
 abbrev pub fault_if : Bool → Verdict → Option Verdict
-fault_if b v = cond b (some v) none
+fault_if b v = cond b (Some v) None
 
 abbrev pub fault_at : (ℕ → ℕ → Verdict) → Option (ℕ × ℕ) → Option Verdict
-fault_at v none = none
-fault_at v (some at) = some (v at.0 at.1)
+fault_at v None = None
+fault_at v (Some at) = Some (v at.0 at.1)
 
 unfoldable pub applies : ℕ → Claim → Option Verdict
 applies code c =
@@ -24,18 +24,18 @@ applies code c =
     (cond (eqb code 11) (fault_at below_order (first_place c.problem.m c.problem.n (low_fault c.problem c.answer.P)))
     (cond (eqb code 12) (fault_at at_order (first_place c.problem.m c.problem.n (order_fault c.problem c.answer.P c.answer.C)))
     (cond (eqb code 13) (fault_if (rank_below c.problem c.answer.P c.answer.C) low_rank)
-    none))))
+    None))))
 
 -- No other code is for a claim.
-pub applies_none : (c : Claim) (code : ℕ) → ¬ (code ≡ 9) → ¬ (code ≡ 10) → ¬ (code ≡ 11) → ¬ (code ≡ 12) → ¬ (code ≡ 13) → applies code c ≡ none
+pub applies_none : (c : Claim) (code : ℕ) → ¬ (code ≡ 9) → ¬ (code ≡ 10) → ¬ (code ≡ 11) → ¬ (code ≡ 12) → ¬ (code ≡ 13) → applies code c ≡ None
 unfolding applies
 applies_none c code h9 h10 h11 h12 h13 =
     rw (ne_eqb code 9 h9, applies) (rw (ne_eqb code 10 h10) (rw (ne_eqb code 11 h11) (rw (ne_eqb code 12 h12) (rw (ne_eqb code 13 h13)))))
 
 -- A verdict that applies, or else another.
 abbrev pub or_else : Option Verdict → Verdict → Verdict
-or_else none w = w
-or_else (some v) w = v
+or_else None w = w
+or_else (Some v) w = v
 
 unfoldable pub first_applying : ℕ → ℕ → Claim → Verdict
 first_applying zero code c = pass_with (degree_sum c.problem c.answer.P)
@@ -46,9 +46,9 @@ unless_first : (b : Bool) (v w w' : Verdict) → w ≡ w' → elim b [ false ↦
 unless_first false v w w' e = refl
 unless_first true v w w' e = e
 
-at_first : (o : Option (ℕ × ℕ)) (v : ℕ → ℕ → Verdict) (w w' : Verdict) → w ≡ w' → elim o [ some place ↦ v place.0 place.1 | none ↦ w ] ≡ or_else (fault_at v o) w'
-at_first none v w w' e = e
-at_first (some at) v w w' e = refl
+at_first : (o : Option (ℕ × ℕ)) (v : ℕ → ℕ → Verdict) (w w' : Verdict) → w ≡ w' → elim o [ Some place ↦ v place.0 place.1 | None ↦ w ] ≡ or_else (fault_at v o) w'
+at_first None v w w' e = e
+at_first (Some at) v w w' e = refl
 
 if_first : (b : Bool) (v w : Verdict) → cond b v w ≡ or_else (fault_if b v) w
 if_first true v w = refl
@@ -64,10 +64,10 @@ judged_in_order c =
     (if_first (rank_below c.problem c.answer.P c.answer.C) low_rank _))))
 
 -- What a code that applies settles, and what one that does not leaves.
-pub applying_first : (c : Claim) (left code : ℕ) (v : Verdict) → applies code c ≡ some v → first_applying (suc left) code c ≡ v
+pub applying_first : (c : Claim) (left code : ℕ) (v : Verdict) → applies code c ≡ Some v → first_applying (suc left) code c ≡ v
 unfolding first_applying
 applying_first c left code v e = ap (λ o. or_else o (first_applying left (code + 1) c)) e
 
-pub applying_later : (c : Claim) (left code : ℕ) → applies code c ≡ none → first_applying (suc left) code c ≡ first_applying left (code + 1) c
+pub applying_later : (c : Claim) (left code : ℕ) → applies code c ≡ None → first_applying (suc left) code c ≡ first_applying left (code + 1) c
 unfolding first_applying
 applying_later c left code e = ap (λ o. or_else o (first_applying left (code + 1) c)) e

@@ -6,7 +6,7 @@
 use Rattle.std.specs.Prelude.{◌≡◌, refl, Bool, true, false, not, List, ℕ, suc, ◌+◌, ◌-◌, ◌≤◌, ◌<◌, ℤ}
 use Rattle.std.proofs.Math.Path.{sym, ap}
 use Rattle.std.proofs.Common.{ap₂, ◌∙◌, arith}
-use Rattle.std.proofs.Math.Option.{Option, none, some}
+use Rattle.std.specs.Prelude.{Option, None, Some}
 use Rattle.algebra.specs.Residue.{K}
 use Rattle.algebra.proofs.Series.{Series}
 use Rattle.algebra.specs.Det.{det}
@@ -35,20 +35,20 @@ use Rattle.conditions.specs.declared.Finding.{Finding}
 use Rattle.conditions.specs.declared.Finding.TheVariants.{Fault, Nothing}
 
 abbrev pub finding : Finding → Option Verdict
-finding (Fault v) = some (meant v)
-finding Nothing = none
+finding (Fault v) = Some (meant v)
+finding Nothing = None
 
 -- A place that was found, and none.
-place_some : (o : Option (ℕ × ℕ)) (i j : ℕ) → place_of o ≡ At i j → o ≡ some (i, j)
-place_some none i j e = cc
-place_some (some (a, b)) i j e =
+place_some : (o : Option (ℕ × ℕ)) (i j : ℕ) → place_of o ≡ At i j → o ≡ Some (i, j)
+place_some None i j e = cc
+place_some (Some (a, b)) i j e =
     let row : a ≡ i = cc in
     let column : b ≡ j = cc in
-    ap₂ (λ u v. some (u, v)) row column
+    ap₂ (λ u v. Some (u, v)) row column
 
-place_none : (o : Option (ℕ × ℕ)) → place_of o ≡ Nowhere → o ≡ none
-place_none none e = refl
-place_none (some (a, b)) e = cc
+place_none : (o : Option (ℕ × ℕ)) → place_of o ≡ Nowhere → o ≡ None
+place_none None e = refl
+place_none (Some (a, b)) e = cc
 
 module _ (m n : ℕ) (faults : ℕ → ℕ → Bool) (at : FirstFault) (e : at ≡ place_of (first_place m n faults)) where
   -- The place of a fault is a row and a column.
@@ -56,10 +56,10 @@ module _ (m n : ℕ) (faults : ℕ → ℕ → Bool) (at : FirstFault) (e : at �
   fault_place i j h = let f = (first_place_some m n faults i j).0 (place_some (first_place m n faults) i j (sym e ∙ h)) in (f.row, f.column)
 
   module _ (v : ℕ → ℕ → Verdict) where
-    pub fault_nowhere : at ≡ Nowhere → none ≡ fault_at v (first_place m n faults)
+    pub fault_nowhere : at ≡ Nowhere → None ≡ fault_at v (first_place m n faults)
     fault_nowhere h = sym (ap (fault_at v) (place_none (first_place m n faults) (sym e ∙ h)))
 
-    pub fault_somewhere : (i j : ℕ) → at ≡ At i j → some (v i j) ≡ fault_at v (first_place m n faults)
+    pub fault_somewhere : (i j : ℕ) → at ≡ At i j → Some (v i j) ≡ fault_at v (first_place m n faults)
     fault_somewhere i j h = sym (ap (fault_at v) (place_some (first_place m n faults) i j (sym e ∙ h)))
 
 turned : (b r : Bool) → b ≡ not r → r ≡ not b
@@ -101,7 +101,7 @@ module _ (c : Claim) where
   pub found_as : {code k : ℕ} {r o : Option Verdict} → code ≡ k → r ≡ o → o ≡ applies k c → r ≡ applies code c
   found_as e h g = h ∙ g ∙ ap (λ i. applies i c) (sym e)
 
-  pub found_nothing : (code : ℕ) → ¬ (code ≡ 9) → ¬ (code ≡ 10) → ¬ (code ≡ 11) → ¬ (code ≡ 12) → ¬ (code ≡ 13) → none ≡ applies code c
+  pub found_nothing : (code : ℕ) → ¬ (code ≡ 9) → ¬ (code ≡ 10) → ¬ (code ≡ 11) → ¬ (code ≡ 12) → ¬ (code ≡ 13) → None ≡ applies code c
   found_nothing code h9 h10 h11 h12 h13 = sym (applies_none c code h9 h10 h11 h12 h13)
 
   -- The codes from 9 up to this one are tried, and none before it applies.
@@ -112,12 +112,12 @@ module _ (c : Claim) where
   pub none_tried : Tried 9
   none_tried = record { most = omega arith; so_far = judged_in_order c }
 
-  pub tried_fault : (code : ℕ) (v : Verdict) → code ≤ 13 → Tried code → some v ≡ applies code c → v ≡ judge_claim c
+  pub tried_fault : (code : ℕ) (v : Verdict) → code ≤ 13 → Tried code → Some v ≡ applies code c → v ≡ judge_claim c
   tried_fault code v h t g =
       let one : 14 - code ≡ suc (13 - code) = omega arith in
       sym (t.so_far ∙ ap (λ k. first_applying k code c) one ∙ applying_first c (13 - code) code v (sym g))
 
-  pub tried_one : (code : ℕ) → code ≤ 13 → Tried code → none ≡ applies code c → Tried (code + 1)
+  pub tried_one : (code : ℕ) → code ≤ 13 → Tried code → None ≡ applies code c → Tried (code + 1)
   tried_one code h t g =
       let one : 14 - code ≡ suc (13 - code) = omega arith in
       let next : 13 - code ≡ 14 - (code + 1) = omega arith in

@@ -1,7 +1,6 @@
 -- Each public function's contract leaves one result.
 use mathlib.Core.Path.{refl, sym, ◌∙◌}
 use Rattle.unique.specs.OneResult.{OneResult}
-use Rattle.degrees.specs.Degree.{degree_injective}
 use Rattle.degrees.proofs.minus.Kinds as minus_kinds
 use Rattle.degrees.proofs.minus.Reads as minus
 use Rattle.degrees.proofs.not_negative.Kinds as not_negative_kinds
@@ -18,7 +17,7 @@ pub not_negative_unique : OneResult not_negative_kinds.ps not_negative_kinds.r n
 not_negative_unique κs a z z' w w' asked h h' = (h ∙ sym h', refl)
 
 pub row_degree_unique : OneResult row_degree_kinds.ps row_degree_kinds.r row_degree.Asked row_degree.Learnt
-row_degree_unique κs a z z' w w' asked h h' = (degree_injective z z' (h ∙ sym h'), refl)
+row_degree_unique κs a z z' w w' asked h h' = (h ∙ sym h', refl)
 
 pub degree_sum_unique : OneResult degree_sum_kinds.ps degree_sum_kinds.r degree_sum.Asked degree_sum.Learnt
-degree_sum_unique κs a z z' w w' asked h h' = (degree_injective z z' (h ∙ sym h'), refl)
+degree_sum_unique κs a z z' w w' asked h h' = (h ∙ sym h', refl)

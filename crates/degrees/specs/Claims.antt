@@ -2,7 +2,7 @@
 --   row_degree_rules, degree_sum_rules
 use Rattle.std.specs.Prelude.{◌≡◌, refl, List, ℕ, zero, suc, ◌<◌, ℤ, length}
 use Rattle.std.proofs.Math.Path.{ap₂}
-use Rattle.std.proofs.Math.Option.{Option}
+use Rattle.std.specs.Prelude.{Option}
 use Rattle.std.proofs.Common.{suc-le-suc, zero-lt-suc}
 use Rattle.algebra.specs.Sum.{sum_cong}
 use Rattle.algebra.specs.Integer.{Integers}

@@ -6,7 +6,8 @@
 use Rattle.std.specs.Prelude.{◌≡◌, refl, List, ℕ, zero, suc, ◌+◌, ◌-◌, ◌*◌, ◌≤◌, ◌<◌, ℤ, pos}
 use Rattle.std.proofs.Common.{sym, ◌∙◌, arith}
 use Rattle.std.proofs.Math.Path.{ap}
-use Rattle.std.proofs.Math.Option.{Option, none, some, some-injective, none-ne-some}
+use Rattle.std.specs.Prelude.{Option, None, Some}
+use Rattle.std.proofs.lemmas.Option.{same_Some, none-some}
 use Rattle.std.proofs.Math.IntN.{nat_abs}
 use Rattle.algebra.specs.Integer.{nat_abs_add}
 use Rattle.rules.specs.Conditions.{shifted_degree_of, larger, largest, plus, total, less, row_degree_of, degree_sum_of}
@@ -38,7 +39,7 @@ largest_from = from largest
 abbrev pub total_from : (ℕ → Option ℤ) → ℕ → ℕ → Option ℤ
 total_from = from total
 
-largest_zero : (f : ℕ → Option ℤ) → largest zero f ≡ none
+largest_zero : (f : ℕ → Option ℤ) → largest zero f ≡ None
 unfolding largest
 largest_zero f = refl
 
@@ -46,7 +47,7 @@ largest_suc : (n : ℕ) (f : ℕ → Option ℤ) → largest (suc n) f ≡ large
 unfolding largest
 largest_suc n f = refl
 
-total_zero : (f : ℕ → Option ℤ) → total zero f ≡ some (pos 0)
+total_zero : (f : ℕ → Option ℤ) → total zero f ≡ Some (pos 0)
 unfolding total
 total_zero f = refl
 
@@ -55,18 +56,18 @@ unfolding total
 total_suc n f = refl
 
 -- Both begin at the end, …
-pub largest_from_end : (f : ℕ → Option ℤ) (n : ℕ) → largest_from f n n ≡ none
-largest_from_end = from_end largest larger none largest_zero largest_suc
+pub largest_from_end : (f : ℕ → Option ℤ) (n : ℕ) → largest_from f n n ≡ None
+largest_from_end = from_end largest larger None largest_zero largest_suc
 
-pub total_from_end : (f : ℕ → Option ℤ) (n : ℕ) → total_from f n n ≡ some (pos 0)
-total_from_end = from_end total plus (some (pos 0)) total_zero total_suc
+pub total_from_end : (f : ℕ → Option ℤ) (n : ℕ) → total_from f n n ≡ Some (pos 0)
+total_from_end = from_end total plus (Some (pos 0)) total_zero total_suc
 
 -- … and take one step after another to the front.
 pub largest_from_step : (f : ℕ → Option ℤ) (n j : ℕ) → 0 < j → j ≤ n → larger (f (j - 1)) (largest_from f n j) ≡ largest_from f n (j - 1)
-largest_from_step = from_step largest larger none largest_zero largest_suc
+largest_from_step = from_step largest larger None largest_zero largest_suc
 
 pub total_from_step : (f : ℕ → Option ℤ) (n j : ℕ) → 0 < j → j ≤ n → plus (f (j - 1)) (total_from f n j) ≡ total_from f n (j - 1)
-total_from_step = from_step total plus (some (pos 0)) total_zero total_suc
+total_from_step = from_step total plus (Some (pos 0)) total_zero total_suc
 
 -- Over all rows the sum is Δ …
 pub total_excess : (lengths : List ℕ) (shifts : List ℤ) (m : ℕ)
@@ -75,29 +76,29 @@ unfolding degree_sum_of
 total_excess lengths shifts m = total_less m (λ i. row_degree_of m (length_at lengths i) (shift_at shifts)) (shift_at shifts)
 
 -- … and there is none where a row has no degree.
-pub excess_none : (lengths : List ℕ) (shifts : List ℤ) (m i : ℕ) → i < m → row_degree_of m (length_at lengths i) (shift_at shifts) ≡ none
-    → degree_sum_of m (length_at lengths) (shift_at shifts) ≡ none
+pub excess_none : (lengths : List ℕ) (shifts : List ℤ) (m i : ℕ) → i < m → row_degree_of m (length_at lengths i) (shift_at shifts) ≡ None
+    → degree_sum_of m (length_at lengths) (shift_at shifts) ≡ None
 excess_none lengths shifts m i b e =
     sym (total_excess lengths shifts m) ∙ total_none m (excess lengths shifts m) i b (ap (λ o. less o (shift_at shifts i)) e)
 
 module _ (lengths : List ℕ) (shifts : List ℤ) (sized : Sized lengths shifts) where
   -- The sizes of the degrees of rows, of what they exceed the shifts by, and of the sums.
-  pub row_degree_size : (m i : ℕ) (r : ℤ) → row_degree_of m (length_at lengths i) (shift_at shifts) ≡ some r → nat_abs r ≤ most_length + most_shift
+  pub row_degree_size : (m i : ℕ) (r : ℤ) → row_degree_of m (length_at lengths i) (shift_at shifts) ≡ Some r → nat_abs r ≤ most_length + most_shift
   unfolding row_degree_of
   row_degree_size m i =
       nat_abs_largest (most_length + most_shift) m (entry_term lengths shifts i) (λ j x b e.
       let (d, l, is) = shifted_is (length_at lengths i j) (shift_at shifts j) x e in
       omega (arith, ap nat_abs is, nat_abs_add (pos d) (shift_at shifts j), sized.length_most (square_place i j), sized.shift_most j))
 
-  pub excess_size : (m i : ℕ) (z : ℤ) → excess lengths shifts m i ≡ some z → nat_abs z ≤ most_length + most_shift + most_shift
+  pub excess_size : (m i : ℕ) (z : ℤ) → excess lengths shifts m i ≡ Some z → nat_abs z ≤ most_length + most_shift + most_shift
   excess_size m i z e = by (row_degree_of m (length_at lengths i) (shift_at shifts)) refl e
     where
-      by : (o : Option ℤ) → row_degree_of m (length_at lengths i) (shift_at shifts) ≡ o → less o (shift_at shifts i) ≡ some z
+      by : (o : Option ℤ) → row_degree_of m (length_at lengths i) (shift_at shifts) ≡ o → less o (shift_at shifts i) ≡ Some z
           → nat_abs z ≤ most_length + most_shift + most_shift
-      by none h e = absurd (none-ne-some _ e)
-      by (some r) h e =
-          omega (arith, ap nat_abs (some-injective _ _ e), nat_abs_minus r (shift_at shifts i), row_degree_size m i r h, sized.shift_most i)
+      by None h e = absurd (none-some _ e)
+      by (Some r) h e =
+          omega (arith, ap nat_abs (same_Some _ _ e), nat_abs_minus r (shift_at shifts i), row_degree_size m i r h, sized.shift_most i)
 
-  pub total_from_size : (m i : ℕ) (z : ℤ) → total_from (excess lengths shifts m) m i ≡ some z → nat_abs z ≤ (m - i) * (most_length + most_shift + most_shift)
+  pub total_from_size : (m i : ℕ) (z : ℤ) → total_from (excess lengths shifts m) m i ≡ Some z → nat_abs z ≤ (m - i) * (most_length + most_shift + most_shift)
   total_from_size m i =
       nat_abs_total (most_length + most_shift + most_shift) (m - i) (λ t. excess lengths shifts m (i + t)) (λ t x b. excess_size m (i + t) x)

@@ -6,18 +6,10 @@ ghost use Rattle.rules.specs.Conditions.{shifted_degree_of, max_z, larger, row_d
 ghost use Rattle.rules.specs.Verdict.{natural};
 ghost use Rattle.rules.specs.Sizes.{most_rows, most_length, most_shift};
 ghost use Rattle.layout.specs.Flat.{length_at, shift_at};
-ghost use Rattle.degrees.specs.Degree.{degree};
 ghost use Rattle.degrees.specs.Degrees.{Sized, entry_term};
 
-use claim::Head;
+use claim::{Basis, Head};
 use layout::{SQUARE, square_place};
-
-// A degree, or none: "A zero entry has no degree", and a row with no other entry has none.
-#[derive(Clone, Copy)]
-pub enum Degree {
-    Of(i32),
-    None,
-}
 
 // x and y: numbers whose sizes together are small enough.
 // Their sum.
@@ -47,16 +39,16 @@ fn larger_number(x: i32, y: i32) -> i32
 
 // x and y: any degrees, or none.
 // The larger of the two: none takes no part.
-fn larger_degree(x: Degree, y: Degree) -> Degree
-    ensures { degree result ≡ larger (degree x) (degree y) }
+fn larger_degree(x: Option<i32>, y: Option<i32>) -> Option<i32>
+    ensures { result ≡ larger x y }
 {
-    let Degree::Of(a) = x else {
+    let Some(a) = x else {
         return y;
     };
-    let Degree::Of(b) = y else {
+    let Some(b) = y else {
         return x;
     };
-    Degree::Of(larger_number(a, b))
+    Some(larger_number(a, b))
 }
 
 // x: any number.
@@ -69,58 +61,52 @@ pub fn not_negative(x: i32) -> u32
 
 // length: the number of coefficients of an entry. shift: its column's.
 // "degree plus that column's shift": none for a zero entry.
-fn shifted_degree(length: usize, shift: i32) -> Degree
+fn shifted_degree(length: usize, shift: i32) -> Option<i32>
     requires { (length ≤ most_length) × (nat_abs shift ≤ most_shift) }
-    ensures { degree result ≡ shifted_degree_of length shift }
+    ensures { result ≡ shifted_degree_of length shift }
 {
     if length == 0 {
-        return Degree::None; // a zero entry
+        return None; // a zero entry
     }
-    Degree::Of(plus((length - 1) as i32, shift))
+    Some(plus((length - 1) as i32, shift))
 }
 
-// head, lengths: of a claim. i and j: a row and a column.
+// head, basis: of a claim. i and j: a row and a column.
 // The degree of the entry there plus the column's shift.
-fn term(head: Head, lengths: &[usize; SQUARE], i: usize, j: usize) -> Degree
-    requires sized { Sized lengths.now head.shifts }
-    requires i_lt_most_rows { (i < most_rows) × (j < most_rows) }
-    ensures { degree result ≡ entry_term lengths.now head.shifts i j }
+fn term(head: &Head, basis: &Basis, i: usize, j: usize) -> Option<i32>
+    requires sized { Sized basis.now.lengths head.now.shifts }
+    requires in_bounds { (i < most_rows) × (j < most_rows) }
+    ensures { result ≡ entry_term basis.now.lengths head.now.shifts i j }
 {
-    shifted_degree(lengths[square_place(i, j)], head.shifts[j])
+    shifted_degree(basis.lengths[square_place(i, j)], head.shifts[j])
 }
 
-// head, lengths: of a claim. i: a row.
+// head, basis: of a claim. i: a row.
 // "the largest, over its entries, of degree plus that column's shift; it may be negative": none for a row of zeros.
-pub fn row_degree(head: Head, lengths: &[usize; SQUARE], i: usize) -> Degree
-    requires sized { Sized lengths.now head.shifts }
-    requires m_le_most_rows { (head.m ≤ most_rows) × (i < most_rows) }
-    ensures { degree result ≡ row_degree_of head.m (length_at lengths.now i) (shift_at head.shifts) }
+pub fn row_degree(head: &Head, basis: &Basis, i: usize) -> Option<i32>
+    requires sized { Sized basis.now.lengths head.now.shifts }
+    requires m_le_most_rows { (head.now.m ≤ most_rows) × (i < most_rows) }
+    ensures { result ≡ row_degree_of head.now.m (length_at basis.now.lengths i) (shift_at head.now.shifts) }
 {
-    let mut j = head.m;
-    let mut most = Degree::None;
-    while 0 < j {
-        j -= 1;
-        most = larger_degree(term(head, lengths, i, j), most);
+    let mut most = None;
+    for j in (0..head.m).rev() {
+        most = larger_degree(term(head, basis, i, j), most);
     }
     most
 }
 
-// head, lengths: of a claim.
+// head, basis: of a claim.
 // "the sum of the row degrees less the sum of the shifts": none where a row has no degree.
-pub fn degree_sum(head: Head, lengths: &[usize; SQUARE]) -> Degree
-    requires sized { Sized lengths.now head.shifts }
-    requires m_le_most_rows { head.m ≤ most_rows }
-    ensures { degree result ≡ degree_sum_of head.m (length_at lengths.now) (shift_at head.shifts) }
+pub fn degree_sum(head: &Head, basis: &Basis) -> Option<i32>
+    requires sized { Sized basis.now.lengths head.now.shifts }
+    requires m_le_most_rows { head.now.m ≤ most_rows }
+    ensures { result ≡ degree_sum_of head.now.m (length_at basis.now.lengths) (shift_at head.now.shifts) }
 {
-    let mut i = head.m;
     let mut sum: i32 = 0;
-    while 0 < i {
-        i -= 1;
-        let Degree::Of(row) = row_degree(head, lengths, i) else {
-            return Degree::None; // a row of zeros
-        };
+    for i in (0..head.m).rev() {
+        let row = row_degree(head, basis, i)?;
         let excess = minus(row, head.shifts[i]);
         sum = plus(excess, sum);
     }
-    Degree::Of(sum)
+    Some(sum)
 }

@@ -6,7 +6,7 @@ use Rattle.std.specs.Prelude.{◌≡◌, Bool, true, false, List, ℕ, suc, ◌+
 use Rattle.std.proofs.Math.Path.{sym, ap}
 use Rattle.std.proofs.Common.{subst, ◌∙◌, le_refl, lt-ltb, le-ltb, le-leb, leb-false}
 use Rattle.std.proofs.Math.Bool.{cond}
-use Rattle.std.proofs.Math.Option.{Option, none, some}
+use Rattle.std.specs.Prelude.{Option, None, Some}
 use native.Mathlib.Omega.{arith}
 use Rattle.std.proofs.lemmas.Bool.{lt-leb}
 use Rattle.rules.specs.Drawn.{Drawn, may_pass, turned_away, too_large, drawn_number, first_too_large, every_column_zero, judge_drawn_claim}
@@ -54,7 +54,7 @@ module _ (p m : ℕ) (u : List ℕ) (point : ℕ) (small : (place : ℕ) → pla
 
 -- The answer, by what the two tests find.
 abbrev by_tests : Option ℕ → Bool → Drawn
-by_tests o b = elim o [ some place ↦ too_large place | none ↦ cond b may_pass turned_away ]
+by_tests o b = elim o [ Some place ↦ too_large place | None ↦ cond b may_pass turned_away ]
 
 module _ (head : Head) (f lengths entries c u : List ℕ) (point : ℕ) where
   abbrev answer : Drawn

@@ -5,7 +5,9 @@
 --   answered_none            none is answered: 0 was asked for
 use Rattle.std.specs.Prelude.{◌≡◌, refl, ℕ, ◌<◌}
 use Rattle.std.proofs.Common.{sym, ap, ◌∙◌, mod-eq_of_lt}
-use Rattle.std.proofs.Math.Option.{Option, none, some, some-injective, none-ne-some, some-ne-none}
+use Rattle.std.specs.Prelude.{Option, None, Some}
+use Rattle.laws.specs.Options.{some_none}
+use Rattle.std.proofs.lemmas.Option.{same_Some, none-some}
 use Rattle.algebra.specs.Prime.{Prime}
 use Rattle.rules.specs.Inverse.{inverse, InverseOf}
 use Rattle.laws.specs.InverseLaws.{inverse_none_iff, inverse_some_iff}
@@ -13,13 +15,13 @@ use Rattle.field.specs.declared.Inverse.{Inverse}
 use Rattle.field.specs.declared.Inverse.TheVariants.{Of, None}
 
 abbrev pub meant : Inverse → Option ℕ
-meant (Of b) = some b
-meant None = none
+meant (Of b) = Some b
+meant None = None
 
 pub meant_injective : (r s : Inverse) → meant r ≡ meant s → r ≡ s
-meant_injective (Of a) (Of b) e = ap Of (some-injective _ _ e)
-meant_injective (Of a) None e = absurd (some-ne-none _ e)
-meant_injective None (Of b) e = absurd (none-ne-some _ e)
+meant_injective (Of a) (Of b) e = ap Of (same_Some _ _ e)
+meant_injective (Of a) None e = absurd (some_none _ e)
+meant_injective None (Of b) e = absurd (none-some _ e)
 meant_injective None None e = refl
 
 -- Where a number is answered, it is the inverse of what was asked for …

@@ -6,7 +6,7 @@ use Rattle.std.proofs.Math.Path.{◌≡◌, refl, ap, fun_ext}
 use Rattle.std.proofs.Common.{sym, ap₂, ◌∙◌, lt_of_lt_of_le}
 use Rattle.std.specs.Prelude.{Bool, false, cond, not, ℤ}
 use Rattle.std.proofs.Math.Bool.{true}
-use Rattle.std.proofs.Math.Option.{Option, none, some}
+use Rattle.std.specs.Prelude.{Option, None, Some}
 use Prim.Native.Nat.{ℕ, zero, suc, ◌≤◌, ◌<◌}
 use Rattle.std.proofs.Math.Decide.{dec_lt}
 use Rattle.std.specs.Int.Signed.{le_z}
@@ -35,8 +35,8 @@ module _ (p m n n' : ℕ) (active active' : ℕ → Bool) (A A' : Matrix (K p))
   take_row_cong i hi c =
       ap {B = Chosen p}
       (λ test. elim (find_constants p m test) [
-        | some u ↦ record { taken = replace i true c.taken; pivot = c.pivot; multipliers = replace i u c.multipliers }
-        | none ↦ record { taken = replace i true c.taken; pivot = replace i true c.pivot; multipliers = c.multipliers }
+        | Some u ↦ record { taken = replace i true c.taken; pivot = c.pivot; multipliers = replace i u c.multipliers }
+        | None ↦ record { taken = replace i true c.taken; pivot = replace i true c.pivot; multipliers = c.multipliers }
       ])
       (fun_ext (same c.pivot i hi))
 
@@ -51,14 +51,14 @@ module _ (p m n n' : ℕ) (active active' : ℕ → Bool) (A A' : Matrix (K p))
     where
       by : (o o' : Option ℕ) → o ≡ o' → next_row m degree c.taken ≡ o
           → ((d : Chosen p) → take_rows p m n active degree A count d ≡ take_rows p m n' active' degree' A' count d)
-          → ◌≡◌ {A = Chosen p} (elim o [ none ↦ c | some i ↦ take_rows p m n active degree A count (take_row p m n active A i c) ])
-          (elim o' [ none ↦ c | some i ↦ take_rows p m n' active' degree' A' count (take_row p m n' active' A' i c) ])
-      by none o' e first next =
-          ap {B = Chosen p} (λ o. elim o [ none ↦ c | some i ↦ take_rows p m n' active' degree' A' count (take_row p m n' active' A' i c) ]) e
-      by (some i) o' e first next =
+          → ◌≡◌ {A = Chosen p} (elim o [ None ↦ c | Some i ↦ take_rows p m n active degree A count (take_row p m n active A i c) ])
+          (elim o' [ None ↦ c | Some i ↦ take_rows p m n' active' degree' A' count (take_row p m n' active' A' i c) ])
+      by None o' e first next =
+          ap {B = Chosen p} (λ o. elim o [ None ↦ c | Some i ↦ take_rows p m n' active' degree' A' count (take_row p m n' active' A' i c) ]) e
+      by (Some i) o' e first next =
           next (take_row p m n active A i c)
           ∙ ap (take_rows p m n' active' degree' A' count) (take_row_cong i (next_row_some degree c.taken m i first).0 c)
-          ∙ ap {B = Chosen p} (λ o. elim o [ none ↦ c | some i ↦ take_rows p m n' active' degree' A' count (take_row p m n' active' A' i c) ]) e
+          ∙ ap {B = Chosen p} (λ o. elim o [ None ↦ c | Some i ↦ take_rows p m n' active' degree' A' count (take_row p m n' active' A' i c) ]) e
 
 -- Two tests are the same where each passes if the other does.
 same_test : (a b : Bool) → (a ≡ true → b ≡ true) → (b ≡ true → a ≡ true) → a ≡ b

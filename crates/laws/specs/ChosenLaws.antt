@@ -7,7 +7,7 @@ use Rattle.std.proofs.Math.Path.{refl, sym, ap, subst}
 use Rattle.std.proofs.Common.{◌∙◌, le_of_lt, arith}
 use Rattle.std.proofs.Math.Bool.{true, false, true≢false}
 use Rattle.std.proofs.lemmas.Bool.{false≢true}
-use Rattle.std.proofs.Math.Option.{Option, none, some}
+use Rattle.std.specs.Prelude.{Option, None, Some}
 use Prim.Native.Nat.{ℕ, zero, suc, ◌≤◌, ◌<◌}
 use Rattle.std.proofs.Math.Decide.{ℕ_discrete}
 use Rattle.algebra.specs.Ring as Ring
@@ -159,11 +159,11 @@ module _ (p : ℕ) (prime : Prime p) (m n : ℕ) (active : ℕ → Bool) (degree
   take_row_keeps c h i low = by (find_constants p m (depends p m n active A c.pivot i)) refl
     where
       by : (o : Option (Row (K p))) → find_constants p m (depends p m n active A c.pivot i) ≡ o → Taking (elim o [
-        | some u ↦ record { taken = replace i true c.taken; pivot = c.pivot; multipliers = replace i u c.multipliers }
-        | none ↦ record { taken = replace i true c.taken; pivot = replace i true c.pivot; multipliers = c.multipliers }
+        | Some u ↦ record { taken = replace i true c.taken; pivot = c.pivot; multipliers = replace i u c.multipliers }
+        | None ↦ record { taken = replace i true c.taken; pivot = replace i true c.pivot; multipliers = c.multipliers }
       ])
-      by (some u) e = cleared_row c h i low u ((depends_iff p m n active A c.pivot i u).0 (find_constants_found p m _ u e))
-      by none e =
+      by (Some u) e = cleared_row c h i low u ((depends_iff p m n active A c.pivot i u).0 (find_constants_found p m _ u e))
+      by None e =
           pivot_row c h i low (λ u combines. (false_iff _).0
           (find_constants_none p (le_of_lt prime.two_le) m _ (depends_local p m n active A c.pivot i) e u)
           ((depends_iff p m n active A c.pivot i u).1 combines))
@@ -173,11 +173,11 @@ module _ (p : ℕ) (prime : Prime p) (m n : ℕ) (active : ℕ → Bool) (degree
   take_row_taken c i = by (find_constants p m (depends p m n active A c.pivot i))
     where
       by : (o : Option (Row (K p))) → (elim o as (λ x. Chosen p) [
-        | some u ↦ record { taken = replace i true c.taken; pivot = c.pivot; multipliers = replace i u c.multipliers }
-        | none ↦ record { taken = replace i true c.taken; pivot = replace i true c.pivot; multipliers = c.multipliers }
+        | Some u ↦ record { taken = replace i true c.taken; pivot = c.pivot; multipliers = replace i u c.multipliers }
+        | None ↦ record { taken = replace i true c.taken; pivot = replace i true c.pivot; multipliers = c.multipliers }
       ]).taken ≡ replace i true c.taken
-      by (some u) = refl
-      by none = refl
+      by (Some u) = refl
+      by None = refl
 
   -- "that one combination": there is no other, since the residuals of the pivots are independent.
   pub combination_unique : (c : Chosen p) → Taking c → (i : ℕ) (u v : Row (K p)) → IsCombination p m n active A c.pivot i u
@@ -205,9 +205,9 @@ module _ (p : ℕ) (prime : Prime p) (m n : ℕ) (active : ℕ → Bool) (degree
 
       by : (o : Option ℕ) → next_row m degree c.taken ≡ o
           → ((i : ℕ) → Lowest degree c.taken m i → Good (take_rows p m n active degree A count (take_row p m n active A i c)))
-          → Good (elim o [ none ↦ c | some i ↦ take_rows p m n active degree A count (take_row p m n active A i c) ])
-      by none e next = (h, next_row_none degree c.taken m e)
-      by (some i) e next = next i (next_row_some degree c.taken m i e)
+          → Good (elim o [ None ↦ c | Some i ↦ take_rows p m n active degree A count (take_row p m n active A i c) ])
+      by None e next = (h, next_row_none degree c.taken m e)
+      by (Some i) e next = next i (next_row_some degree c.taken m i e)
 
   -- What was chosen when all rows were taken is what a step may take.
   pub chosen_choice : Choice (K p) m n active degree A (take_rows p m n active degree A m (none_taken p)).pivot

@@ -8,7 +8,7 @@ use Rattle.std.proofs.Math.Path.{refl, ap, subst}
 use Rattle.std.proofs.Common.{sym, ◌∙◌, le_of_suc-le-suc, not-suc-le-zero, le_refl, le_trans, suc-ne-zero, lt_of_not-le}
 use Rattle.std.proofs.Math.Logic.Iff
 use Rattle.std.proofs.Math.Bool.{cond}
-use Rattle.std.proofs.Math.Option.{some}
+use Rattle.std.specs.Prelude.{Some}
 use Prim.Native.Nat.{ℕ, zero, suc, pred, ◌+◌, ◌≤◌, ◌<◌, zero-le, suc-le-suc}
 use Rattle.std.proofs.Math.Nat.{zero-lt-suc, le-max_left, le-max_right, zero-add, suc_inj}
 use native.Mathlib.Omega.{arith}
@@ -140,7 +140,7 @@ module _ (b : Problem) (P : List (List (List ℕ))) where
 
   -- "Δ … for a passed answer … is the exponent of X": of a reduced P whose determinant is a nonzero constant times a power of X, the
   -- degree sum is the exponent.
-  pub degree_sum_exponent : reduced b P ≡ true → (monomial : Monomial (K b.p) (determinant b P)) → degree_sum b P ≡ some (pos monomial.0)
+  pub degree_sum_exponent : reduced b P ≡ true → (monomial : Monomial (K b.p) (determinant b P)) → degree_sum b P ≡ Some (pos monomial.0)
   degree_sum_exponent r (e, ne, others) =
       let (d, same, below, nz) = degree_sum_natural b P r in
-      same ∙ ap (λ n. some (pos n)) (elim (ℕ_discrete d e) [ yes q ↦ q | no nq ↦ absurd (nz (others d nq)) ])
+      same ∙ ap (λ n. Some (pos n)) (elim (ℕ_discrete d e) [ yes q ↦ q | no nq ↦ absurd (nz (others d nq)) ])

@@ -4,7 +4,7 @@
 --   inverse_some_iff         the inverse is the number of K whose product with a is 1
 use Rattle.std.specs.Prelude.{◌≡◌, ◌≢◌, ◌↔◌, ℕ, ◌*◌, ◌%◌, ◌<◌}
 use Rattle.std.proofs.Common.{sym, ap, ◌∙◌, le_of_lt, mod-eq_of_lt, suc-ne-zero, arith}
-use Rattle.std.proofs.Math.Option.{none, some}
+use Rattle.std.specs.Prelude.{None, Some}
 use Rattle.std.proofs.Math.Decide.{ℕ_discrete}
 use Rattle.std.proofs.Math.Dec.{eqb}
 use Rattle.algebra.specs.Ring as Ring
@@ -51,7 +51,7 @@ module _ (p : ℕ) (prime : Prime p) where
       same = inverse_unique (K p) (red p a) (red p b) (red p c) (inverts b hb) (inverts c hc)
 
   -- "The inverse of 0 shall have an answer of its own": 0 has none, and every other number has one.
-  pub inverse_none_iff : (a : ℕ) → (inverse p a ≡ none) ↔ (a % p ≡ 0)
+  pub inverse_none_iff : (a : ℕ) → (inverse p a ≡ None) ↔ (a % p ≡ 0)
   unfolding inverse
   inverse_none_iff a = (
     λ e. elim (ℕ_discrete (a % p) 0) [
@@ -64,7 +64,7 @@ module _ (p : ℕ) (prime : Prime p) where
   )
 
   -- "of any other a it is the b with a × b = 1"
-  pub inverse_some_iff : (a b : ℕ) → (inverse p a ≡ some b) ↔ InverseOf p a b
+  pub inverse_some_iff : (a b : ℕ) → (inverse p a ≡ Some b) ↔ InverseOf p a b
   unfolding inverse
   inverse_some_iff a b = (
     λ e. let (h, t, before) = (first_below_some p (λ b. eqb (a * b % p) 1) b).0 e in record { below = h; one = (eqb_iff (a * b % p) 1).0 t },

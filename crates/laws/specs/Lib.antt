@@ -1,3 +1,4 @@
+pub mod Options
 pub mod Valid
 pub mod BoolLaws
 pub mod SearchLaws

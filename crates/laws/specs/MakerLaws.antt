@@ -6,7 +6,7 @@
 use Rattle.std.specs.Prelude.{◌≡◌, refl, Bool, true, false, not, T, ltb, ℤ, ◌+ℤ◌, length}
 use Rattle.std.proofs.Math.Path.{sym, ap, subst}
 use Rattle.std.proofs.Common.{◌∙◌, le_of_lt, arith, nltb→le}
-use Rattle.std.proofs.Math.Option.{some, get_or}
+use Rattle.std.specs.Prelude.{Some, unwrap_or}
 use Prim.Native.Nat.{ℕ, zero, suc, min, ◌+◌, ◌≤◌, ◌<◌, zero-le}
 use Rattle.std.proofs.Math.Dec.{ltb→lt}
 use Rattle.std.proofs.Math.IntN.{pos}
@@ -86,7 +86,7 @@ module _ (b : Problem) (valid : ValidProblem b) where
   -- What holds of P after k steps: it is a basis of the smaller of each order and k, and r are its row degrees by L2's rule.
   pub record AfterBasis (k : ℕ) : Type 0 where
     pub r : ℕ → ℤ
-    pub row_degrees : (i : ℕ) → i < b.m → row_degree b (basis_after b k) i ≡ some (r i)
+    pub row_degrees : (i : ℕ) → i < b.m → row_degree b (basis_after b k) i ≡ Some (r i)
     pub basis : Basis (K b.p) b.m b.n (entries (K b.p) (matrix_F b)) (shift b) (λ j. min (order b j) k) r
         (entries (K b.p) (matrix_P b (basis_after b k)))
 
@@ -125,7 +125,7 @@ module _ (b : Problem) (valid : ValidProblem b) where
     step_choice =
         choice_local (K b.p) b.m b.n (above b k) (row_degree_now b (basis_after b k)) before.r (λ i j. product b (basis_after b k) i j k)
         (residuals (K b.p) b.m series_F before_orders (series_after k)) pivot multipliers
-        (λ i hi. ap (λ o. get_or o (pos 0)) (before.row_degrees i hi))
+        (λ i hi. ap (λ o. unwrap_or o (pos 0)) (before.row_degrees i hi))
         (λ i j hi hj a. ap (vmul (Series (K b.p)) b.m (series_after k i) series_F j) (omega (arith, ltb→lt k (order b j) ((true_iff _).0 a))))
         (chosen_choice b.p valid.prime b.m b.n (above b k) (row_degree_now b (basis_after b k)) (λ i j. product b (basis_after b k) i j k))
 
@@ -152,7 +152,7 @@ module _ (b : Problem) (valid : ValidProblem b) where
   -- Before any step the row degrees are the shifts, …
   pub after_degree_start : (i : ℕ) → i < b.m → row_degree_now b (basis_after b zero) i ≡ shift b i
   unfolding after_basis with_degrees
-  after_degree_start i hi = ap (λ o. get_or o (pos 0)) ((after_basis zero zero-le).row_degrees i hi)
+  after_degree_start i hi = ap (λ o. unwrap_or o (pos 0)) ((after_basis zero zero-le).row_degrees i hi)
 
   -- … and a step raises that of each pivot by one.
   pub after_degree_step : (k : ℕ) → suc k ≤ most_order → (i : ℕ) → i < b.m → row_degree_now b (basis_after b (suc k)) i
@@ -160,5 +160,5 @@ module _ (b : Problem) (valid : ValidProblem b) where
   unfolding step_after with_degrees
   after_degree_step k small i hi =
       let before : AfterBasis k = after_basis k (omega arith) in
-      ap (λ o. get_or o (pos 0)) ((step_after k before small).row_degrees i hi)
-      ∙ ap (λ r. r +ℤ pos (once ((chosen b k (basis_after b k)).pivot i))) (sym (ap (λ o. get_or o (pos 0)) (before.row_degrees i hi)))
+      ap (λ o. unwrap_or o (pos 0)) ((step_after k before small).row_degrees i hi)
+      ∙ ap (λ r. r +ℤ pos (once ((chosen b k (basis_after b k)).pivot i))) (sym (ap (λ o. unwrap_or o (pos 0)) (before.row_degrees i hi)))

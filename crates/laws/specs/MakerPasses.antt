@@ -11,7 +11,7 @@ use Rattle.std.proofs.Math.Path.{refl, sym, ap, ap₂, subst, fun_ext}
 use Rattle.std.proofs.Common.{◌∙◌, le_of_suc-le-suc, not-suc-le-zero, mod-eq_of_lt}
 use Rattle.std.proofs.Math.Bool.{cond}
 use mathlib.Core.List.{List, [], ◌∷◌}
-use Rattle.std.proofs.Math.Option.{Option, none, some}
+use Rattle.std.specs.Prelude.{Option, None, Some}
 use Prim.Native.Nat.{ℕ, zero, suc, min, ◌+◌, ◌≤◌, ◌<◌, zero-le}
 use Rattle.std.proofs.Math.Nat.{le_of_lt, zero-mod}
 use native.Mathlib.Omega.{arith}
@@ -127,8 +127,8 @@ choose r d l o k sum =
             | false ↦ not_monomial
             | true ↦
                 elim l [
-                  | some place ↦ below_order place.0 place.1
-                  | none ↦ elim o [ some place ↦ at_order place.0 place.1 | none ↦ cond k low_rank (pass_with sum) ]
+                  | Some place ↦ below_order place.0 place.1
+                  | None ↦ elim o [ Some place ↦ at_order place.0 place.1 | None ↦ cond k low_rank (pass_with sum) ]
                 ]
           ]
     ]
@@ -137,10 +137,10 @@ choose r d l o k sum =
 pub passed_by_tests : (c : Claim) (d : ℕ)
     → reduced c.problem c.answer.P ≡ true
     → monomial_determinant c.problem c.answer.P ≡ true
-    → first_place c.problem.m c.problem.n (low_fault c.problem c.answer.P) ≡ none
-    → first_place c.problem.m c.problem.n (order_fault c.problem c.answer.P c.answer.C) ≡ none
+    → first_place c.problem.m c.problem.n (low_fault c.problem c.answer.P) ≡ None
+    → first_place c.problem.m c.problem.n (order_fault c.problem c.answer.P c.answer.C) ≡ None
     → rank_below c.problem c.answer.P c.answer.C ≡ false
-    → degree_sum c.problem c.answer.P ≡ some (pos d)
+    → degree_sum c.problem c.answer.P ≡ Some (pos d)
     → judge_claim c ≡ passed d
 unfolding judge_claim by_product by_rank
 passed_by_tests c d er ed el eo ek es = λ i. choose (er i) (ed i) (el i) (eo i) (ek i) (es i)
@@ -193,12 +193,12 @@ module _ (b : Problem) (valid : ValidProblem b) (k : ℕ) (small : k ≤ most_or
   is_monomial = (monomial_determinant_iff cut P).1 cut_after.monomial
 
   -- … 3, …
-  no_low_fault : first_place cut.m cut.n (low_fault cut P) ≡ none
+  no_low_fault : first_place cut.m cut.n (low_fault cut P) ≡ None
   unfolding product mmul
   no_low_fault = (first_place_none cut.m cut.n (low_fault cut P)).1
       (λ i j hi hj. (no_low_fault_iff cut P i j).1 (λ l hl. cut_after.vanishes i hi j l hj hl))
 
-  no_order_fault : first_place cut.m cut.n (order_fault cut P (evidence_of cut P)) ≡ none
+  no_order_fault : first_place cut.m cut.n (order_fault cut P (evidence_of cut P)) ≡ None
   no_order_fault = (first_place_none cut.m cut.n (order_fault cut P (evidence_of cut P))).1 (λ i j hi hj. evidence_no_order_fault cut P i j hi hj)
 
   -- … and 4.

@@ -6,7 +6,8 @@ use Rattle.std.specs.Prelude.{◌≡◌, Bool, List, ℤ, pos, negsuc, neg_ℤ, 
 use Rattle.std.proofs.Math.Path.{refl, ap}
 use Rattle.std.proofs.Common.{sym, ◌∙◌, le_refl, mod-eq_of_lt}
 use Rattle.std.proofs.Math.Bool.{true, false}
-use Rattle.std.proofs.Math.Option.{Option, none, some, some-injective, none-ne-some}
+use Rattle.std.specs.Prelude.{Option, None, Some}
+use Rattle.std.proofs.lemmas.Option.{same_Some, none-some}
 use Prim.Native.Nat.{ℕ, ◌+◌, ◌*◌, ◌%◌, ◌^◌, ◌≤◌, ◌<◌, zero-le}
 use Rattle.std.proofs.Math.Nat.{mul-le-mul, add-mul-mod_self_left, eq_of_mul-eq-mul_left}
 use native.Mathlib.Omega.{arith}
@@ -73,24 +74,24 @@ natural_nat_abs (negsuc d) = zero-le
 
 -- The degree sum of a valid claim is small.
 module _ (b : Problem) (P : List (List (List ℕ))) (valid : ValidProblem b) (basis : ValidBasis b P) where
-  row_degree_most : (i : ℕ) (r : ℤ) → row_degree b P i ≡ some r → nat_abs r ≤ most_order + most_shift
+  row_degree_most : (i : ℕ) (r : ℤ) → row_degree b P i ≡ Some r → nat_abs r ≤ most_order + most_shift
   unfolding row_degree_of most_length most_order
   row_degree_most i =
       nat_abs_largest (most_order + most_shift) b.m (λ j. shifted_degree_of (length (at P i j)) (shift b j)) (λ j x hj e.
       let (d, l, is) = shifted_is (length (at P i j)) (shift b j) x e in
       omega (arith, ap nat_abs is, nat_abs_add (pos d) (shift b j), valid.shift_most j, basis.P_entry_length i j))
 
-  degree_sum_most : (z : ℤ) → degree_sum b P ≡ some z → natural z ≤ most_rows * (most_order + most_shift + most_shift)
+  degree_sum_most : (z : ℤ) → degree_sum b P ≡ Some z → natural z ≤ most_rows * (most_order + most_shift + most_shift)
   unfolding degree_sum_of most_rows
   degree_sum_most z e = by (total b.m (row_degree b P)) refl e
     where
-      by : (o : Option ℤ) → total b.m (row_degree b P) ≡ o → less o (sum Integers b.m (shift b)) ≡ some z
+      by : (o : Option ℤ) → total b.m (row_degree b P) ≡ o → less o (sum Integers b.m (shift b)) ≡ Some z
           → natural z ≤ most_rows * (most_order + most_shift + most_shift)
-      by none t h = absurd (none-ne-some _ h)
-      by (some r) t h = omega (
+      by None t h = absurd (none-some _ h)
+      by (Some r) t h = omega (
         arith,
         natural_nat_abs z,
-        ap nat_abs (some-injective _ _ h),
+        ap nat_abs (same_Some _ _ h),
         nat_abs_add r (neg_ℤ (sum Integers b.m (shift b))),
         nat_abs_neg (sum Integers b.m (shift b)),
         nat_abs_total (most_order + most_shift) b.m (row_degree b P) (λ i x hi. row_degree_most i x) r t,
@@ -104,8 +105,8 @@ module _ (b : Problem) (P : List (List (List ℕ))) (valid : ValidProblem b) (ba
 module _ (c : Claim) (valid : Valid c) where
   pass_fits : (o : Option ℤ) → degree_sum c.problem c.answer.P ≡ o → Fits (numbers (pass_with o))
   unfolding numbers most_rows most_order most_shift
-  pass_fits none e = record { code = omega arith; file = omega arith; number = omega arith; at = omega arith }
-  pass_fits (some z) e = record {
+  pass_fits None e = record { code = omega arith; file = omega arith; number = omega arith; at = omega arith }
+  pass_fits (Some z) e = record {
     code = omega arith;
     file = omega arith;
     number = omega arith;
@@ -133,18 +134,18 @@ module _ (c : Claim) (valid : Valid c) where
       }
 
       high : (o : Option (ℕ × ℕ)) → first_place c.problem.m c.problem.n (order_fault c.problem c.answer.P c.answer.C) ≡ o
-          → Fits (numbers (elim o [ some place ↦ at_order place.0 place.1 | none ↦ by_rank c ]))
-      high none e = by_rank_fits
-      high (some p) e = place _ 12 p.0 p.1 (omega arith) ((first_place_some _ _ _ p.0 p.1).0 e)
+          → Fits (numbers (elim o [ Some place ↦ at_order place.0 place.1 | None ↦ by_rank c ]))
+      high None e = by_rank_fits
+      high (Some p) e = place _ 12 p.0 p.1 (omega arith) ((first_place_some _ _ _ p.0 p.1).0 e)
 
       low : (o : Option (ℕ × ℕ)) → first_place c.problem.m c.problem.n (low_fault c.problem c.answer.P) ≡ o → Fits (numbers (elim o [
-        | some place ↦ below_order place.0 place.1
-        | none ↦
+        | Some place ↦ below_order place.0 place.1
+        | None ↦
             elim (first_place c.problem.m c.problem.n (order_fault c.problem c.answer.P c.answer.C))
-            [ some place ↦ at_order place.0 place.1 | none ↦ by_rank c ]
+            [ Some place ↦ at_order place.0 place.1 | None ↦ by_rank c ]
       ]))
-      low none e = high (first_place c.problem.m c.problem.n (order_fault c.problem c.answer.P c.answer.C)) refl
-      low (some p) e = place _ 11 p.0 p.1 (omega arith) ((first_place_some _ _ _ p.0 p.1).0 e)
+      low None e = high (first_place c.problem.m c.problem.n (order_fault c.problem c.answer.P c.answer.C)) refl
+      low (Some p) e = place _ 11 p.0 p.1 (omega arith) ((first_place_some _ _ _ p.0 p.1).0 e)
 
   judged_fits : Fits (numbers (judge_claim c))
   unfolding judge_claim numbers

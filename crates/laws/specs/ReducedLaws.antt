@@ -8,8 +8,7 @@ use Rattle.std.specs.Prelude.{◌≡◌, ◌≢◌, ◌↔◌, true, false, List
 use Rattle.std.proofs.Math.Path.{refl, ap, subst}
 use Rattle.std.proofs.Common.{sym, ◌∙◌, true≢false}
 use Rattle.std.proofs.Math.Logic.Iff
-use Rattle.std.proofs.Math.Option
-use Rattle.std.proofs.Math.Option.{Option, none, some}
+use Rattle.std.specs.Prelude.{Option, None, Some, unwrap_or}
 use Prim.Native.Nat.{ℕ, zero, suc, ◌+◌, ◌≤◌, ◌<◌}
 use native.Mathlib.Omega.{arith}
 use Rattle.std.proofs.Math.IntN.{pos}
@@ -35,7 +34,7 @@ use Rattle.laws.specs.DegreeLaws.{largest_above, largest_none, total_is, shifted
 module _ (b : Problem) (P : List (List (List ℕ))) where
   -- The power at which an entry other than 0 has its leading coefficient is a natural number, and the entry's degree is not above it. Of
   -- a zero entry the power may be negative.
-  pub leading_power_natural : (i j d : ℕ) (r : ℤ) → row_degree b P i ≡ some r → j < b.m → length (at P i j) ≡ suc d
+  pub leading_power_natural : (i j d : ℕ) (r : ℤ) → row_degree b P i ≡ Some r → j < b.m → length (at P i j) ≡ suc d
       → (e : ℕ) × (r -ℤ shift b j ≡ pos e) × (d ≤ e)
   unfolding row_degree_of
   leading_power_natural i j d r e h l =
@@ -51,13 +50,13 @@ module _ (b : Problem) (P : List (List (List ℕ))) where
   zero_entry i j l k = (matrix_P b P i j).below k (omega (arith, l))
 
   -- A row that has no degree has zero entries alone.
-  pub no_degree_zero : (i j : ℕ) → row_degree b P i ≡ none → j < b.m → (k : ℕ) → (matrix_P b P i j).series k ≡ (K b.p).𝟘
+  pub no_degree_zero : (i j : ℕ) → row_degree b P i ≡ None → j < b.m → (k : ℕ) → (matrix_P b P i j).series k ≡ (K b.p).𝟘
   unfolding row_degree_of
   no_degree_zero i j e h =
       zero_entry i j (shifted_none _ (shift b j) (largest_none b.m (λ j. shifted_degree_of (length (at P i j)) (shift b j)) e j h))
 
   -- The degree of each entry is at most its row's degree less its column's shift.
-  pub entry_at_most : (i j : ℕ) (r : ℤ) → row_degree b P i ≡ some r → j < b.m → AtMost (K b.p) (r -ℤ shift b j) (matrix_P b P i j).series
+  pub entry_at_most : (i j : ℕ) (r : ℤ) → row_degree b P i ≡ Some r → j < b.m → AtMost (K b.p) (r -ℤ shift b j) (matrix_P b P i j).series
   unfolding AtMost
   entry_at_most i j r e h = by (length (at P i j)) refl
     where
@@ -69,14 +68,14 @@ module _ (b : Problem) (P : List (List (List ℕ))) where
 
   -- The row degrees as integers, 0 for a row that has none: of that row every entry is 0, whatever its degree.
   abbrev pub degrees : ℕ → ℤ
-  degrees i = Option.get_or (row_degree b P i) (pos 0)
+  degrees i = unwrap_or (row_degree b P i) (pos 0)
 
   pub entries_at_most : EntriesAtMost (K b.p) b.m b.m degrees (shift b) (entries (K b.p) (matrix_P b P))
   entries_at_most i j hi hj = by (row_degree b P i) refl
     where
-      by : (o : Option ℤ) → row_degree b P i ≡ o → AtMost (K b.p) (Option.get_or o (pos 0) -ℤ shift b j) (matrix_P b P i j).series
-      by none e = at_most_zeros (K b.p) (pos 0 -ℤ shift b j) (matrix_P b P i j).series (no_degree_zero i j e hj)
-      by (some r) e = entry_at_most i j r e hj
+      by : (o : Option ℤ) → row_degree b P i ≡ o → AtMost (K b.p) (unwrap_or o (pos 0) -ℤ shift b j) (matrix_P b P i j).series
+      by None e = at_most_zeros (K b.p) (pos 0 -ℤ shift b j) (matrix_P b P i j).series (no_degree_zero i j e hj)
+      by (Some r) e = entry_at_most i j r e hj
 
   -- The leading matrix is the theory's for these degrees.
   pub leading_by_degrees : (i j : ℕ) → i < b.m → j < b.m
@@ -85,9 +84,9 @@ module _ (b : Problem) (P : List (List (List ℕ))) where
     where
       by : (o : Option ℤ) → row_degree b P i ≡ o
           → leading_coefficient b.p o (shift b j) (matrix_P b P i j).series
-          ≡ coefficient (K b.p) (Option.get_or o (pos 0) -ℤ shift b j) (matrix_P b P i j).series
-      by none e = sym (coefficient_zeros (K b.p) (pos 0 -ℤ shift b j) (matrix_P b P i j).series (no_degree_zero i j e hj))
-      by (some r) e = refl
+          ≡ coefficient (K b.p) (unwrap_or o (pos 0) -ℤ shift b j) (matrix_P b P i j).series
+      by None e = sym (coefficient_zeros (K b.p) (pos 0 -ℤ shift b j) (matrix_P b P i j).series (no_degree_zero i j e hj))
+      by (Some r) e = refl
 
   -- Condition 1: "P is reduced if the leading matrix has a determinant other than 0".
   pub reduced_iff : (reduced b P ≡ true) ↔ (det (K b.p) b.m (leading_matrix b P) ≢ (K b.p).𝟘)
@@ -102,27 +101,27 @@ module _ (b : Problem) (P : List (List (List ℕ))) where
       ∙ coefficient_zeros (K b.p) (degrees i -ℤ shift b j) (matrix_P b P i j).series (λ k. zeros j k hj))))
 
   -- A row that has no degree is a zero row.
-  pub no_degree_not_reduced : (i : ℕ) → i < b.m → row_degree b P i ≡ none → reduced b P ≡ false
+  pub no_degree_not_reduced : (i : ℕ) → i < b.m → row_degree b P i ≡ None → reduced b P ≡ false
   no_degree_not_reduced i hi e = zero_row_not_reduced i hi (λ j k hj. no_degree_zero i j e hj k)
 
   -- So every row of a reduced P has a degree.
-  pub reduced_degrees : reduced b P ≡ true → (i : ℕ) → i < b.m → row_degree b P i ≡ some (degrees i)
+  pub reduced_degrees : reduced b P ≡ true → (i : ℕ) → i < b.m → row_degree b P i ≡ Some (degrees i)
   reduced_degrees r i hi = by (row_degree b P i) refl
     where
-      by : (o : Option ℤ) → row_degree b P i ≡ o → o ≡ some (Option.get_or o (pos 0))
-      by none e = absurd (true≢false (sym r ∙ no_degree_not_reduced i hi e))
-      by (some d) e = refl
+      by : (o : Option ℤ) → row_degree b P i ≡ o → o ≡ Some (unwrap_or o (pos 0))
+      by None e = absurd (true≢false (sym r ∙ no_degree_not_reduced i hi e))
+      by (Some d) e = refl
 
   -- Where the rows have degrees, their sum less that of the shifts is the degree sum.
-  pub degree_sum_is : (r : ℕ → ℤ) → ((i : ℕ) → i < b.m → row_degree b P i ≡ some (r i))
-      → degree_sum b P ≡ some (sum Integers b.m r -ℤ sum Integers b.m (shift b))
+  pub degree_sum_is : (r : ℕ → ℤ) → ((i : ℕ) → i < b.m → row_degree b P i ≡ Some (r i))
+      → degree_sum b P ≡ Some (sum Integers b.m r -ℤ sum Integers b.m (shift b))
   unfolding degree_sum_of
   degree_sum_is r h = rw (total_is b.m (row_degree b P) r h, degree_sum_of)
 
   -- Of a reduced P the degree sum is a natural number, and the degree of the determinant.
   pub degree_sum_natural : reduced b P ≡ true
-      → (d : ℕ) × (degree_sum b P ≡ some (pos d)) × Below (K b.p) (suc d) (determinant b P) × (determinant b P d ≢ (K b.p).𝟘)
+      → (d : ℕ) × (degree_sum b P ≡ Some (pos d)) × Below (K b.p) (suc d) (determinant b P) × (determinant b P d ≢ (K b.p).𝟘)
   degree_sum_natural r =
       let (d, same, below, ne) = degree_of_det (K b.p) b.m degrees (shift b) (entries (K b.p) (matrix_P b P)) entries_at_most
       (λ z. reduced_iff.0 r (det_local (K b.p) b.m _ _ leading_by_degrees ∙ z)) in
-      (d, degree_sum_is degrees (reduced_degrees r) ∙ ap some same, below, ne)
+      (d, degree_sum_is degrees (reduced_degrees r) ∙ ap Some same, below, ne)

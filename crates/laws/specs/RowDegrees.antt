@@ -6,7 +6,7 @@
 use Rattle.std.specs.Prelude.{◌≡◌, refl, ◌≢◌, ◌↔◌, List, ℕ, suc, pred, ◌<◌, ℤ, pos, ◌-ℤ◌, length, get_or}
 use Rattle.std.proofs.Common.{sym, ap, ◌∙◌, mod-eq_of_lt, arith}
 use Rattle.std.proofs.Math.Path.{subst}
-use Rattle.std.proofs.Math.Option.{Option, none, some}
+use Rattle.std.specs.Prelude.{Option, None, Some}
 use Rattle.std.proofs.Math.IntN.{+ℤ-neg_ℤ_cancel}
 use Rattle.algebra.specs.Residue.{K, red, red_zero_iff}
 use Rattle.algebra.specs.Degree.{coefficient, coefficient_zeros}
@@ -32,7 +32,7 @@ module _ (b : Problem) (P : List (List (List ℕ))) (valid : ValidBasis b P) (i 
       → ¬ RowDegree (K b.p) b.m (shift b) D (λ j. (matrix_P b P i j).series)
   zeros_no_degree D zeros (bound, (j, hj, ne)) = ne (coefficient_zeros (K b.p) (D -ℤ shift b j) (matrix_P b P i j).series (λ k. zeros j k hj))
 
-  degree_of_row : (D : ℤ) → row_degree b P i ≡ some D → RowDegree (K b.p) b.m (shift b) D (λ j. (matrix_P b P i j).series)
+  degree_of_row : (D : ℤ) → row_degree b P i ≡ Some D → RowDegree (K b.p) b.m (shift b) D (λ j. (matrix_P b P i j).series)
   unfolding row_degree_of coefficient
   degree_of_row D e =
       let (j, hj, top) = largest_is b.m (λ j. shifted_degree_of (length (at P i j)) (shift b j)) D e in
@@ -48,22 +48,22 @@ module _ (b : Problem) (P : List (List (List ℕ))) (valid : ValidBasis b P) (i 
 
   -- "The degree of row i is the largest, over its entries, of degree plus that column's shift"; "A zero entry has no degree and takes no
   -- part in the row degree" (document 02, L2). So the row has a coefficient other than 0 there in some entry, and none above.
-  pub row_degree_iff : (D : ℤ) → (row_degree b P i ≡ some D) ↔ RowDegree (K b.p) b.m (shift b) D (λ j. (matrix_P b P i j).series)
+  pub row_degree_iff : (D : ℤ) → (row_degree b P i ≡ Some D) ↔ RowDegree (K b.p) b.m (shift b) D (λ j. (matrix_P b P i j).series)
   row_degree_iff D = (degree_of_row D, by (row_degree b P i) refl)
     where
-      by : (o : Option ℤ) → row_degree b P i ≡ o → RowDegree (K b.p) b.m (shift b) D (λ j. (matrix_P b P i j).series) → o ≡ some D
-      by none e h = absurd (zeros_no_degree D (λ j k hj. no_degree_zero b P i j e hj k) h)
-      by (some r) e h = ap some (row_degree_unique (K b.p) b.m (shift b) r D (λ j. (matrix_P b P i j).series) (degree_of_row r e) h)
+      by : (o : Option ℤ) → row_degree b P i ≡ o → RowDegree (K b.p) b.m (shift b) D (λ j. (matrix_P b P i j).series) → o ≡ Some D
+      by None e h = absurd (zeros_no_degree D (λ j k hj. no_degree_zero b P i j e hj k) h)
+      by (Some r) e h = ap Some (row_degree_unique (K b.p) b.m (shift b) r D (λ j. (matrix_P b P i j).series) (degree_of_row r e) h)
 
   -- "A row with no entry other than zero has no row degree …
-  pub row_degree_none_iff : (row_degree b P i ≡ none) ↔ ((j k : ℕ) → j < b.m → (matrix_P b P i j).series k ≡ (K b.p).𝟘)
+  pub row_degree_none_iff : (row_degree b P i ≡ None) ↔ ((j k : ℕ) → j < b.m → (matrix_P b P i j).series k ≡ (K b.p).𝟘)
   row_degree_none_iff = (λ e j k hj. no_degree_zero b P i j e hj k, by (row_degree b P i) refl)
     where
-      by : (o : Option ℤ) → row_degree b P i ≡ o → ((j k : ℕ) → j < b.m → (matrix_P b P i j).series k ≡ (K b.p).𝟘) → o ≡ none
-      by none e zeros = refl
-      by (some r) e zeros = absurd (zeros_no_degree r zeros (degree_of_row r e))
+      by : (o : Option ℤ) → row_degree b P i ≡ o → ((j k : ℕ) → j < b.m → (matrix_P b P i j).series k ≡ (K b.p).𝟘) → o ≡ None
+      by None e zeros = refl
+      by (Some r) e zeros = absurd (zeros_no_degree r zeros (degree_of_row r e))
 
 -- … and the verdict is 9" (document 02, L2).
-pub zero_row_verdict : (c : Claim) (i : ℕ) → i < c.problem.m → row_degree c.problem c.answer.P i ≡ none → judge_claim c ≡ not_reduced
+pub zero_row_verdict : (c : Claim) (i : ℕ) → i < c.problem.m → row_degree c.problem c.answer.P i ≡ None → judge_claim c ≡ not_reduced
 unfolding judge_claim
 zero_row_verdict c i h e = rw (no_degree_not_reduced c.problem c.answer.P i h e, judge_claim)

@@ -6,7 +6,7 @@
 use Rattle.std.specs.Prelude.{◌≡◌, refl, ◌⊎◌, ◌↔◌, Bool, true, false, cond, not, ℕ, zero, suc, ◌+◌, ◌<◌, ℤ, pos, negsuc, ◌+ℤ◌}
 use Rattle.std.proofs.Common.{sym, ap, subst, ◌∙◌, true≢false, le_of_suc-le-suc, not-suc-le-zero, le_refl, lt-suc_self, arith, le→leb}
 use Rattle.std.proofs.Math.Logic.{inl, inr}
-use Rattle.std.proofs.Math.Option.{none, some}
+use Rattle.std.specs.Prelude.{None, Some}
 use Rattle.std.proofs.Math.Decide.{ℕ_discrete}
 use Rattle.std.proofs.Math.IntN.{+ℤ_idr, +ℤ_assoc}
 use Rattle.std.specs.Int.Signed.{le_z}
@@ -103,12 +103,12 @@ module _ (degree : ℕ → ℤ) (taken : ℕ → Bool) where
     )
 
     -- The row taken next is lowest …
-    pub next_row_some : (i : ℕ) → next_row m degree taken ≡ some i → Lowest m i
+    pub next_row_some : (i : ℕ) → next_row m degree taken ≡ Some i → Lowest m i
     unfolding next_row
     next_row_some i e = let (hi, t, before) = (first_below_some m _ i).0 e in (lowest_iff i hi).0 t
 
     -- … and there is one as long as rows are left.
-    pub next_row_none : next_row m degree taken ≡ none → (i : ℕ) → i < m → taken i ≡ true
+    pub next_row_none : next_row m degree taken ≡ None → (i : ℕ) → i < m → taken i ≡ true
     unfolding next_row
     next_row_none e = elim (lowest m) [
       | inl all ↦ all

@@ -8,7 +8,9 @@
 use Rattle.std.specs.Prelude.{◌≡◌, refl, ◌⊎◌, ◌↔◌, Bool, true, false, ℕ, zero, suc, ◌<◌}
 use Rattle.std.proofs.Common.{sym, ap, ap₂, subst, ◌∙◌, inl, inr, suc-le-suc, le_of_suc-le-suc, not-suc-le-zero, zero-lt-suc, arith}
 use Rattle.std.proofs.lemmas.Bool.{false≢true}
-use Rattle.std.proofs.Math.Option.{Option, none, some, some-injective, none-ne-some, some-ne-none}
+use Rattle.std.specs.Prelude.{Option, None, Some}
+use Rattle.laws.specs.Options.{some_none}
+use Rattle.std.proofs.lemmas.Option.{same_Some, none-some}
 use Rattle.std.proofs.Math.Nat.{zero-mod}
 use Rattle.std.proofs.Math.Decide.{dec_lt}
 use Rattle.algebra.specs.Residue.{K, Residue, red, residue_ext}
@@ -71,11 +73,11 @@ First n test i = (i < n) × (test i ≡ true) × ((k : ℕ) → k < i → test k
 
 -- The step of the search: the first number, or the first of the others.
 abbrev step : Bool → Option ℕ → Option ℕ
-step b o = elim b [ true ↦ some zero | false ↦ elim o [ none ↦ none | some i ↦ some (suc i) ] ]
+step b o = elim b [ true ↦ Some zero | false ↦ elim o [ None ↦ None | Some i ↦ Some (suc i) ] ]
 
 -- o is none and no number passes, or o is the first that does.
 abbrev Found : (n : ℕ) → (ℕ → Bool) → Option ℕ → Type 0
-Found n test o = ((o ≡ none) × ((i : ℕ) → i < n → test i ≡ false)) ⊎ ((i : ℕ) × (o ≡ some i) × First n test i)
+Found n test o = ((o ≡ None) × ((i : ℕ) → i < n → test i ≡ false)) ⊎ ((i : ℕ) × (o ≡ Some i) × First n test i)
 
 -- The search finds the first number that passes, or none passes.
 first_below_cases : (n : ℕ) (test : ℕ → Bool) → Found n test (first_below n test)
@@ -107,19 +109,19 @@ first_unique n test i k (hi, pi, fi) (hk, pk, fk) = elim (dec_lt i k) [
 ]
 
 -- No number is found exactly if none passes …
-pub first_below_none : (n : ℕ) (test : ℕ → Bool) → (first_below n test ≡ none) ↔ ((i : ℕ) → i < n → test i ≡ false)
+pub first_below_none : (n : ℕ) (test : ℕ → Bool) → (first_below n test ≡ None) ↔ ((i : ℕ) → i < n → test i ≡ false)
 first_below_none n test = elim (first_below_cases n test) [
   | inl h ↦ (λ e. h.1, λ f. h.0)
-  | inr h ↦ (λ e. absurd (some-ne-none h.0 (sym h.1 ∙ e)), λ f. absurd ((false_iff (test h.0)).0 (f h.0 h.2.0) h.2.1))
+  | inr h ↦ (λ e. absurd (some_none h.0 (sym h.1 ∙ e)), λ f. absurd ((false_iff (test h.0)).0 (f h.0 h.2.0) h.2.1))
 ]
 
 -- … and i is found exactly if it is the first that does.
-pub first_below_some : (n : ℕ) (test : ℕ → Bool) (i : ℕ) → (first_below n test ≡ some i) ↔ First n test i
+pub first_below_some : (n : ℕ) (test : ℕ → Bool) (i : ℕ) → (first_below n test ≡ Some i) ↔ First n test i
 first_below_some n test i = elim (first_below_cases n test) [
-  | inl h ↦ (λ e. absurd (none-ne-some i (sym h.0 ∙ e)), λ f. absurd ((false_iff (test i)).0 (h.1 i f.0) f.1))
+  | inl h ↦ (λ e. absurd (none-some i (sym h.0 ∙ e)), λ f. absurd ((false_iff (test i)).0 (h.1 i f.0) f.1))
   | inr h ↦ (
-    λ e. subst (First n test) (some-injective h.0 i (sym h.1 ∙ e)) h.2,
-    λ f. h.1 ∙ ap some (first_unique n test h.0 i h.2 f),
+    λ e. subst (First n test) (same_Some h.0 i (sym h.1 ∙ e)) h.2,
+    λ f. h.1 ∙ ap Some (first_unique n test h.0 i h.2 f),
   )
 ]
 
@@ -142,15 +144,15 @@ pub record FirstPlace (m n : ℕ) (fault : ℕ → ℕ → Bool) (i j : ℕ) : T
 
 -- The place found in a row, if one is.
 abbrev in_row : ℕ → Option ℕ → Option (ℕ × ℕ)
-in_row i o = elim o [ none ↦ none | some j ↦ some (i, j) ]
+in_row i o = elim o [ None ↦ None | Some j ↦ Some (i, j) ]
 
 abbrev in_rows : (n : ℕ) → (ℕ → ℕ → Bool) → Option ℕ → Option (ℕ × ℕ)
-in_rows n fault o = elim o [ none ↦ none | some i ↦ in_row i (first_below n (fault i)) ]
+in_rows n fault o = elim o [ None ↦ None | Some i ↦ in_row i (first_below n (fault i)) ]
 
 -- The search finds the first place, or there is no fault.
 first_place_cases : (m n : ℕ) (fault : ℕ → ℕ → Bool)
-    → ((first_place m n fault ≡ none) × ((i j : ℕ) → i < m → j < n → fault i j ≡ false))
-    ⊎ ((i : ℕ) × (j : ℕ) × (first_place m n fault ≡ some (i, j)) × FirstPlace m n fault i j)
+    → ((first_place m n fault ≡ None) × ((i j : ℕ) → i < m → j < n → fault i j ≡ false))
+    ⊎ ((i : ℕ) × (j : ℕ) × (first_place m n fault ≡ Some (i, j)) × FirstPlace m n fault i j)
 unfolding first_place
 first_place_cases m n fault = elim (first_below_cases m (λ i. some_below n (fault i))) [
   | inl (e, fails) ↦ inl (ap (in_rows n fault) e, λ i j hi hj. (some_below_false_iff n (fault i)).0 (fails i hi) j hj)
@@ -166,11 +168,11 @@ first_place_cases m n fault = elim (first_below_cases m (λ i. some_below n (fau
 ]
 
 -- No place is found exactly if there is no fault …
-pub first_place_none : (m n : ℕ) (fault : ℕ → ℕ → Bool) → (first_place m n fault ≡ none) ↔ ((i j : ℕ) → i < m → j < n → fault i j ≡ false)
+pub first_place_none : (m n : ℕ) (fault : ℕ → ℕ → Bool) → (first_place m n fault ≡ None) ↔ ((i j : ℕ) → i < m → j < n → fault i j ≡ false)
 first_place_none m n fault = elim (first_place_cases m n fault) [
   | inl h ↦ (λ e. h.1, λ f. h.0)
   | inr h ↦ (
-    λ e. absurd (some-ne-none (h.0, h.1) (sym h.2 ∙ e)),
+    λ e. absurd (some_none (h.0, h.1) (sym h.2 ∙ e)),
     λ f. absurd ((false_iff (fault h.0 h.1)).0 (f h.0 h.1 h.3.row h.3.column) h.3.faulty),
   )
 ]
@@ -190,11 +192,11 @@ first_place_unique m n fault i j a b f g = ap₂ (λ x y. (x, y)) rows columns
         (subst (λ x. First n (fault x) b) (sym rows) (g.column, g.faulty, g.columns_before))
 
 -- … and a place is found exactly if it is the first.
-pub first_place_some : (m n : ℕ) (fault : ℕ → ℕ → Bool) (i j : ℕ) → (first_place m n fault ≡ some (i, j)) ↔ FirstPlace m n fault i j
+pub first_place_some : (m n : ℕ) (fault : ℕ → ℕ → Bool) (i j : ℕ) → (first_place m n fault ≡ Some (i, j)) ↔ FirstPlace m n fault i j
 first_place_some m n fault i j = elim (first_place_cases m n fault) [
-  | inl h ↦ (λ e. absurd (none-ne-some (i, j) (sym h.0 ∙ e)), λ f. absurd ((false_iff (fault i j)).0 (h.1 i j f.row f.column) f.faulty))
+  | inl h ↦ (λ e. absurd (none-some (i, j) (sym h.0 ∙ e)), λ f. absurd ((false_iff (fault i j)).0 (h.1 i j f.row f.column) f.faulty))
   | inr h ↦ (
-    λ e. subst (λ q. FirstPlace m n fault q.0 q.1) (some-injective (h.0, h.1) (i, j) (sym h.2 ∙ e)) h.3,
-    λ f. h.2 ∙ ap some (first_place_unique m n fault h.0 h.1 i j h.3 f),
+    λ e. subst (λ q. FirstPlace m n fault q.0 q.1) (same_Some (h.0, h.1) (i, j) (sym h.2 ∙ e)) h.3,
+    λ f. h.2 ∙ ap Some (first_place_unique m n fault h.0 h.1 i j h.3 f),
   )
 ]

@@ -6,7 +6,7 @@ use Rattle.std.specs.Prelude.{◌≡◌, Bool, List, ℤ}
 use Rattle.std.proofs.Math.Path.{refl}
 use Rattle.std.proofs.Common.{sym, ap, subst, arith}
 use Rattle.std.proofs.Math.Bool.{true, false}
-use Rattle.std.proofs.Math.Option.{Option, none, some}
+use Rattle.std.specs.Prelude.{Option, None, Some}
 use Prim.Native.Nat.{ℕ, ◌≤◌, ◌<◌}
 use Rattle.rules.specs.Claim.{Problem, Claim}
 use Rattle.rules.specs.Reader.{Place, Refusal, Result, refused, got}
@@ -41,8 +41,8 @@ Judged b (at_order i j) = (i < b.m) × (j < b.n)
 Judged b low_rank = Unit {0}
 
 pass_judged : (b : Problem) (o : Option ℤ) → Judged b (pass_with o)
-pass_judged b none = tt
-pass_judged b (some z) = tt
+pass_judged b None = tt
+pass_judged b (Some z) = tt
 
 module _ (c : Claim) where
   by_rank_judged : Judged c.problem (by_rank c)
@@ -55,22 +55,22 @@ module _ (c : Claim) where
   unfolding by_product
   by_product_judged = low (first_place c.problem.m c.problem.n (low_fault c.problem c.answer.P)) refl
     where
-      place : (fault : ℕ → ℕ → Bool) (i j : ℕ) → first_place c.problem.m c.problem.n fault ≡ some (i, j) → (i < c.problem.m) × (j < c.problem.n)
+      place : (fault : ℕ → ℕ → Bool) (i j : ℕ) → first_place c.problem.m c.problem.n fault ≡ Some (i, j) → (i < c.problem.m) × (j < c.problem.n)
       place fault i j e = let f = (first_place_some c.problem.m c.problem.n fault i j).0 e in (f.row, f.column)
 
       high : (o : Option (ℕ × ℕ)) → first_place c.problem.m c.problem.n (order_fault c.problem c.answer.P c.answer.C) ≡ o
-          → Judged c.problem (elim o [ some place ↦ at_order place.0 place.1 | none ↦ by_rank c ])
-      high none e = by_rank_judged
-      high (some p) e = place _ p.0 p.1 e
+          → Judged c.problem (elim o [ Some place ↦ at_order place.0 place.1 | None ↦ by_rank c ])
+      high None e = by_rank_judged
+      high (Some p) e = place _ p.0 p.1 e
 
       low : (o : Option (ℕ × ℕ)) → first_place c.problem.m c.problem.n (low_fault c.problem c.answer.P) ≡ o → Judged c.problem (elim o [
-        | some place ↦ below_order place.0 place.1
-        | none ↦
+        | Some place ↦ below_order place.0 place.1
+        | None ↦
             elim (first_place c.problem.m c.problem.n (order_fault c.problem c.answer.P c.answer.C))
-            [ some place ↦ at_order place.0 place.1 | none ↦ by_rank c ]
+            [ Some place ↦ at_order place.0 place.1 | None ↦ by_rank c ]
       ])
-      low none e = high (first_place c.problem.m c.problem.n (order_fault c.problem c.answer.P c.answer.C)) refl
-      low (some p) e = place _ p.0 p.1 e
+      low None e = high (first_place c.problem.m c.problem.n (order_fault c.problem c.answer.P c.answer.C)) refl
+      low (Some p) e = place _ p.0 p.1 e
 
   -- The verdict on a claim is such a one.
   pub judge_claim_judged : Judged c.problem (judge_claim c)

@@ -4,7 +4,7 @@
 --   leading_array            modulo p it is that of the polynomials
 use Rattle.std.specs.Prelude.{◌≡◌, refl, true, false, List, [], ℕ, ◌≤◌, ◌<◌, T, ℤ, pos, negsuc, nat_abs, ◌-ℤ◌, get_or}
 use Rattle.std.proofs.Common.{sym, ap, subst, ◌∙◌, arith, ltb-true}
-use Rattle.std.proofs.Math.Option.{Option, none, some}
+use Rattle.std.specs.Prelude.{Option, None, Some}
 use Rattle.std.specs.Int.Signed.{lt_z}
 use Rattle.algebra.specs.Residue.{K, red}
 use Rattle.algebra.specs.Degree.{coefficient}
@@ -55,8 +55,8 @@ red_at_power p (negsuc k) f = refl
 
 -- The number at the degree of a row less a shift: 0 where the row has none.
 unfoldable pub at_degree : Option ℤ → ℤ → (ℕ → ℕ) → ℕ
-at_degree none s f = 0
-at_degree (some r) s f = at_power (r -ℤ s) f
+at_degree None s f = 0
+at_degree (Some r) s f = at_power (r -ℤ s) f
 
 -- "The leading matrix holds at (i, j) the coefficient of P's entry at the power (row degree − s_j), or 0 if the entry has none there
 -- or that power is negative."
@@ -64,26 +64,26 @@ unfoldable pub leading_number : List ℕ → List ℕ → List ℤ → ℕ → �
 leading_number entries lengths shifts m i j = at_degree (row_degree_of m (length_at lengths i) (shift_at shifts)) (shift_at shifts j) (cell entries i j)
 
 -- In a row that has a degree it is the number at that power, …
-pub leading_some : (entries lengths : List ℕ) (shifts : List ℤ) (m i j : ℕ) (r : ℤ) → row_degree_of m (length_at lengths i) (shift_at shifts) ≡ some r
+pub leading_some : (entries lengths : List ℕ) (shifts : List ℤ) (m i j : ℕ) (r : ℤ) → row_degree_of m (length_at lengths i) (shift_at shifts) ≡ Some r
     → leading_number entries lengths shifts m i j ≡ at_power (r -ℤ shift_at shifts j) (cell entries i j)
 unfolding leading_number at_degree
 leading_some entries lengths shifts m i j r e = ap (λ o. at_degree o (shift_at shifts j) (cell entries i j)) e
 
 -- … and in a row that has none it is 0.
-pub leading_none : (entries lengths : List ℕ) (shifts : List ℤ) (m i j : ℕ) → row_degree_of m (length_at lengths i) (shift_at shifts) ≡ none
+pub leading_none : (entries lengths : List ℕ) (shifts : List ℤ) (m i j : ℕ) → row_degree_of m (length_at lengths i) (shift_at shifts) ≡ None
     → leading_number entries lengths shifts m i j ≡ 0
 unfolding leading_number at_degree
 leading_none entries lengths shifts m i j e = ap (λ o. at_degree o (shift_at shifts j) (cell entries i j)) e
 
 red_at_degree : (p : ℕ) (o : Option ℤ) (s : ℤ) (f : ℕ → ℕ) → red p (at_degree o s f) ≡ leading_coefficient p o s (λ k. red p (f k))
 unfolding at_degree
-red_at_degree p none s f = refl
-red_at_degree p (some r) s f = red_at_power p (r -ℤ s) f
+red_at_degree p None s f = refl
+red_at_degree p (Some r) s f = red_at_power p (r -ℤ s) f
 
 at_degree_below : (p : ℕ) (o : Option ℤ) (s : ℤ) (f : ℕ → ℕ) → 0 < p → ((k : ℕ) → f k < p) → at_degree o s f < p
 unfolding at_degree
-at_degree_below p none s f zero_below below = zero_below
-at_degree_below p (some r) s f zero_below below = at_power_below p (r -ℤ s) f zero_below below
+at_degree_below p None s f zero_below below = zero_below
+at_degree_below p (Some r) s f zero_below below = at_power_below p (r -ℤ s) f zero_below below
 
 -- Modulo p the array is the leading matrix of the polynomials, for the row degrees and the shifts.
 pub leading_array : (p : ℕ) (entries lengths : List ℕ) (shifts : List ℤ) (m i j : ℕ) → i < m → j < m → m ≤ most_rows

@@ -10,7 +10,7 @@ use Rattle.std.proofs.Common.{subst, ◌∙◌, le_refl, le_of_lt, lt_of_not-le,
 use Rattle.std.proofs.Math.Logic.{inl, inr}
 use Rattle.std.proofs.Math.Bool.{Bool, not}
 use Rattle.std.proofs.lemmas.Bool.{false≢true}
-use Rattle.std.proofs.Math.Option.{Option, none, some}
+use Rattle.std.specs.Prelude.{Option, None, Some}
 use Prim.Native.Nat.{ℕ, suc, ◌+◌, ◌-◌, ◌*◌, ◌%◌, ◌^◌, ◌≤◌, ◌<◌, suc-le-suc}
 use Rattle.std.proofs.Math.Nat.{le_of_suc-le-suc, pow-succ', one-le-pow}
 use Rattle.std.proofs.Math.Decide.{dec_lt, dec_le}
@@ -267,7 +267,7 @@ module _ (c : Claim) (valid : Valid c) where
       (λ u v same hu hv tu tv. one_number i j k hi ne u v same hu hv (vanishes u tu) (vanishes v tv))) hi
 
 abbrev by_tests : Option ℕ → Bool → Drawn
-by_tests o b = elim o [ some place ↦ too_large place | none ↦ cond b may_pass turned_away ]
+by_tests o b = elim o [ Some place ↦ too_large place | None ↦ cond b may_pass turned_away ]
 
 -- "It says "may pass" exactly when every column gives 0.": not otherwise, …
 may_pass_zero : (c : Claim) (u : List ℕ) (point : ℕ) → says_may_pass (judge_drawn_claim c u point) ≡ true
@@ -276,9 +276,9 @@ unfolding judge_drawn_claim
 may_pass_zero c u point = by (first_too_large c.problem.p c.problem.m u point) (every_column_zero c.problem c.answer.P c.answer.C u point)
   where
     by : (o : Option ℕ) (b : Bool) → says_may_pass (by_tests o b) ≡ true → b ≡ true
-    by (some place) b e = absurd (false≢true e)
-    by none true e = refl
-    by none false e = absurd (false≢true e)
+    by (Some place) b e = absurd (false≢true e)
+    by None true e = refl
+    by None false e = absurd (false≢true e)
 
 -- … and then it is not turned away.
 zero_not_turned_away : (c : Claim) (u : List ℕ) (point : ℕ) → every_column_zero c.problem c.answer.P c.answer.C u point ≡ true
@@ -294,9 +294,9 @@ zero_not_turned_away c u point =
     is_turned_away (too_large place) = false
 
     by : (o : Option ℕ) (b : Bool) → b ≡ true → by_tests o b ≢ turned_away
-    by (some place) b z e = false≢true (ap is_turned_away e)
-    by none true z e = false≢true (ap is_turned_away e)
-    by none false z e = false≢true z
+    by (Some place) b z e = false≢true (ap is_turned_away e)
+    by None true z e = false≢true (ap is_turned_away e)
+    by None false z e = false≢true z
 
 pub never_turned_away : NeverTurnedAway
 never_turned_away s t c q e no_low no_order u point turned =

@@ -8,7 +8,7 @@
 --   one_row_alone                          shifts 0 and 1
 use Rattle.std.specs.Prelude.{◌≡◌, refl, ◌≢◌, true, List, [], ◌∷◌, ℕ, zero, suc, ◌%◌, ◌≤◌, ◌<◌, pos, ◌+ℤ◌, get_or}
 use Rattle.std.proofs.Common.{sym, ap, subst, ◌∙◌, suc-ne-zero, arith, lit<, lit≤}
-use Rattle.std.proofs.Math.Option.{some-injective}
+use Rattle.std.proofs.lemmas.Option.{same_Some}
 use Rattle.algebra.specs.Prime.{Prime}
 use Rattle.algebra.proofs.Prime.{prime_iff_no_divisor}
 use Rattle.algebra.specs.Residue.{K, red, red_eq, K_nontrivial}
@@ -146,7 +146,7 @@ two_rows_least : Least two_rows
 two_rows_least = least_of_plain two_rows prime_7 two_rows_plain (lit< tt)
 
 two_rows_r : (i : ℕ) → i < 2 → two_rows_least.r i ≡ pos 1
-two_rows_r i h = some-injective _ _ (sym (two_rows_least.row_degrees i h) ∙ two_rows_degrees i h)
+two_rows_r i h = same_Some _ _ (sym (two_rows_least.row_degrees i h) ∙ two_rows_degrees i h)
 
 X_and_6_largest : IsLargest 7 2 two_rows_least.r X_and_6 (pos 2)
 X_and_6_largest = record {
@@ -184,7 +184,7 @@ first_alone_largest = record {
 }
   where
     first : shifted_rows_least.r 0 ≡ pos 1
-    first = some-injective _ _ (sym (shifted_rows_least.row_degrees 0 (lit< tt)))
+    first = same_Some _ _ (sym (shifted_rows_least.row_degrees 0 (lit< tt)))
 
     above : (k : ℕ) → 0 < k → get_or (1 ∷ []) k 0 % 7 ≡ 0
     above zero h = absurd (omega arith)

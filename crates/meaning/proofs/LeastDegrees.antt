@@ -8,7 +8,7 @@ use Rattle.std.specs.Prelude.{◌≡◌, refl, ◌≢◌, ◌↔◌, List, [], �
 use Rattle.std.proofs.Common.{sym, ap, subst, ◌∙◌, le_of_suc-le-suc, not-suc-le-zero, zero-lt-suc, le_of_lt, lt_of_not-le, arith}
 use Rattle.std.proofs.Math.Logic.{inl, inr}
 use Rattle.std.proofs.Math.Logic.Iff
-use Rattle.std.proofs.Math.Option.{some}
+use Rattle.std.specs.Prelude.{Some}
 use Prim.Native.Nat.{ℕ, zero, suc, ◌+◌, ◌-◌, ◌%◌, ◌≤◌, ◌<◌, suc-le-suc}
 use Rattle.std.proofs.Math.Decide.{dec_le, ℕ_discrete}
 use Rattle.std.proofs.Math.IntN.{+ℤ_comm, +ℤ-neg_ℤ_cancel}
@@ -242,7 +242,7 @@ module _ (b : Problem) (prime : Prime b.p) where
         no_two = permutes.apart;
         same_degree = λ i hi.
             reduced_degrees b a.P plain.is_reduced i hi
-            ∙ ap some (same i hi)
+            ∙ ap Some (same i hi)
             ∙ sym (reduced_degrees b a'.P plain'.is_reduced (partner i) (permutes.within i hi));
       }
 

@@ -6,7 +6,7 @@
 use Rattle.std.specs.Prelude.{◌≡◌, ◌↔◌, [], ℕ, ◌<◌, pos, get_or}
 use Rattle.std.proofs.Common.{sym, ◌∙◌, le_of_lt, mod-eq_of_lt}
 use Rattle.std.proofs.Math.Logic.Iff
-use Rattle.std.proofs.Math.Option.{some}
+use Rattle.std.specs.Prelude.{Some}
 use Rattle.std.proofs.Math.Decide.{ℕ_discrete}
 use Rattle.algebra.specs.Prime.{Prime}
 use Rattle.algebra.specs.Residue.{red_eq, K_decides, K_inverse, K_inverts, K_nontrivial}
@@ -101,7 +101,7 @@ pub pass_means_plain : (c : Claim) → Valid c → ((d : ℕ) × (judge_claim c 
 pass_means_plain c valid = pass_iff_plain c valid.valid_problem.prime valid.valid_answer.C_range
 
 -- For a passed claim the number in the verdict is the degree sum itself, and the determinant is a nonzero constant times X to it.
-pub passed_exponent : (c : Claim) → Valid c → (d : ℕ) → judge_claim c ≡ passed d → (degree_sum c.problem c.answer.P ≡ some (pos d)) × IsMonomial c d
+pub passed_exponent : (c : Claim) → Valid c → (d : ℕ) → judge_claim c ≡ passed d → (degree_sum c.problem c.answer.P ≡ Some (pos d)) × IsMonomial c d
 passed_exponent c valid d e =
     let (r, monomial, no_low, no_order, full, exponent) = (judge_claim_meaning c (le_of_lt valid.valid_problem.prime.two_le) (passed d)).0 e in
     (exponent, monomial)

@@ -5,7 +5,7 @@
 use Rattle.std.specs.Prelude.{◌≡◌, refl, ◌↔◌, Bool, true, false, cond, ℕ, ◌+◌, ◌<◌, pos}
 use Rattle.std.proofs.Common.{sym, ap, subst, ◌∙◌}
 use Rattle.std.proofs.Math.Logic.Iff
-use Rattle.std.proofs.Math.Option.{Option, none, some}
+use Rattle.std.specs.Prelude.{Option, None, Some}
 use Rattle.algebra.specs.Residue.{red, red_value, red_zero_iff, K_decides}
 use Rattle.algebra.specs.Matrix.{mmul}
 use Rattle.algebra.specs.Dependence.{independent_not_dependent, not_dependent_independent}
@@ -31,13 +31,13 @@ module _ (m n : ℕ) (fault : ℕ → ℕ → Bool) (Fault : ℕ → ℕ → Typ
   fails : (i j : ℕ) → (fault i j ≡ false) ↔ (¬ Fault i j)
   fails i j = Iff.trans (false_iff (fault i j)) (Iff.not (test i j))
 
-  nowhere_iff : (first_place m n fault ≡ none) ↔ Nowhere m n Fault
+  nowhere_iff : (first_place m n fault ≡ None) ↔ Nowhere m n Fault
   nowhere_iff = (
     λ e i j hi hj. (fails i j).0 ((first_place_none m n fault).0 e i j hi hj),
     λ h. (first_place_none m n fault).1 (λ i j hi hj. (fails i j).1 (h i j hi hj)),
   )
 
-  first_at_iff : (i j : ℕ) → (first_place m n fault ≡ some (i, j)) ↔ FirstAt m n Fault i j
+  first_at_iff : (i j : ℕ) → (first_place m n fault ≡ Some (i, j)) ↔ FirstAt m n Fault i j
   first_at_iff i j = (
     λ e. let f = (first_place_some m n fault i j).0 e in
         record {
@@ -107,11 +107,11 @@ module _ (c : Claim) (positive : 0 < c.problem.p) where
               | false ↦ not_monomial
               | true ↦
                   elim l [
-                    | some place ↦ below_order place.0 place.1
-                    | none ↦
+                    | Some place ↦ below_order place.0 place.1
+                    | None ↦
                         elim o [
-                          | some place ↦ at_order place.0 place.1
-                          | none ↦ cond k low_rank (pass_with (degree_sum c.problem c.answer.P))
+                          | Some place ↦ at_order place.0 place.1
+                          | None ↦ cond k low_rank (pass_with (degree_sum c.problem c.answer.P))
                         ]
                   ]
             ]
@@ -139,16 +139,16 @@ module _ (c : Claim) (positive : 0 < c.problem.p) where
   monomial_is : (monomial_determinant c.problem c.answer.P ≡ true) ↔ SomeMonomial c
   monomial_is = monomial_determinant_iff c.problem c.answer.P
 
-  no_low_is : (first_low ≡ none) ↔ Nowhere c.problem.m c.problem.n (LowFault c)
+  no_low_is : (first_low ≡ None) ↔ Nowhere c.problem.m c.problem.n (LowFault c)
   no_low_is = nowhere_iff c.problem.m c.problem.n (low_fault c.problem c.answer.P) (LowFault c) low_iff
 
-  no_order_is : (first_order ≡ none) ↔ Nowhere c.problem.m c.problem.n (OrderFault c)
+  no_order_is : (first_order ≡ None) ↔ Nowhere c.problem.m c.problem.n (OrderFault c)
   no_order_is = nowhere_iff c.problem.m c.problem.n (order_fault c.problem c.answer.P c.answer.C) (OrderFault c) order_iff
 
-  low_is : (i j : ℕ) → (first_low ≡ some (i, j)) ↔ FirstAt c.problem.m c.problem.n (LowFault c) i j
+  low_is : (i j : ℕ) → (first_low ≡ Some (i, j)) ↔ FirstAt c.problem.m c.problem.n (LowFault c) i j
   low_is = first_at_iff c.problem.m c.problem.n (low_fault c.problem c.answer.P) (LowFault c) low_iff
 
-  order_is : (i j : ℕ) → (first_order ≡ some (i, j)) ↔ FirstAt c.problem.m c.problem.n (OrderFault c) i j
+  order_is : (i j : ℕ) → (first_order ≡ Some (i, j)) ↔ FirstAt c.problem.m c.problem.n (OrderFault c) i j
   order_is = first_at_iff c.problem.m c.problem.n (order_fault c.problem c.answer.P c.answer.C) (OrderFault c) order_iff
 
   -- What the tests choose is said truly …
@@ -161,13 +161,13 @@ module _ (c : Claim) (positive : 0 < c.problem.p) where
       → Says c (choose r d l o k)
   says_by_tests false d l o k er ed el eo ek = λ h. (false_iff _).0 er (reduced_is.1 h)
   says_by_tests true false l o k er ed el eo ek = (reduced_is.0 er, λ h. (false_iff _).0 ed (monomial_is.1 h))
-  says_by_tests true true (some place) o k er ed el eo ek = (reduced_is.0 er, monomial_is.0 ed, (low_is place.0 place.1).0 el)
-  says_by_tests true true none (some place) k er ed el eo ek =
+  says_by_tests true true (Some place) o k er ed el eo ek = (reduced_is.0 er, monomial_is.0 ed, (low_is place.0 place.1).0 el)
+  says_by_tests true true None (Some place) k er ed el eo ek =
       (reduced_is.0 er, monomial_is.0 ed, no_low_is.0 el, (order_is place.0 place.1).0 eo)
-  says_by_tests true true none none true er ed el eo ek = (reduced_is.0 er, monomial_is.0 ed, no_low_is.0 el, no_order_is.0 eo, rank_iff.0 ek)
-  says_by_tests true true none none false er ed el eo ek =
+  says_by_tests true true None None true er ed el eo ek = (reduced_is.0 er, monomial_is.0 ed, no_low_is.0 el, no_order_is.0 eo, rank_iff.0 ek)
+  says_by_tests true true None None false er ed el eo ek =
       let (e, ne, others) = monomial_is.0 ed in
-      let exponent : degree_sum c.problem c.answer.P ≡ some (pos e) = degree_sum_exponent c.problem c.answer.P er (e, ne, others) in
+      let exponent : degree_sum c.problem c.answer.P ≡ Some (pos e) = degree_sum_exponent c.problem c.answer.P er (e, ne, others) in
       subst (Says c) (sym (ap pass_with exponent))
       (reduced_is.0 er, (ne, others), no_low_is.0 el, no_order_is.0 eo, full_rank_iff.0 ek, exponent)
 

@@ -8,7 +8,9 @@
 use Rattle.std.specs.Prelude.{◌≡◌, ◌≢◌, ℕ, zero, suc, pred, ◌<◌, ℤ, ◌+ℤ◌, ◌-ℤ◌, length}
 use Rattle.std.proofs.Math.Path.{refl, ap}
 use Rattle.std.proofs.Common.{sym, ◌∙◌}
-use Rattle.std.proofs.Math.Option.{Option, none, some, get_or, some-ne-none}
+use Rattle.std.specs.Prelude.{Option, None, Some, unwrap_or}
+use Rattle.laws.specs.Options.{some_none}
+use Rattle.std.proofs.lemmas.Option.{none-some}
 use Rattle.std.proofs.Math.IntN.{pos, +ℤ_idr}
 use Rattle.algebra.specs.Integer.{Integers}
 use Rattle.algebra.specs.Sum.{sum}
@@ -33,11 +35,11 @@ use Rattle.meaning.specs.Verdicts.{Reduced, SaysBy}
 
 -- "degree plus that column's shift" of an entry of row i: "An entry of length 0 counts as degree 0."
 abbrev shifted_before : Claim → ℕ → ℕ → Option ℤ
-shifted_before c i j = some (pos (pred (length (at c.answer.P i j))) +ℤ shift c.problem j)
+shifted_before c i j = Some (pos (pred (length (at c.answer.P i j))) +ℤ shift c.problem j)
 
 -- "The degree of row i is the largest, over its entries" of these. A row has entries, so that there is a largest.
 abbrev pub row_degree_before : Claim → ℕ → ℤ
-row_degree_before c i = get_or (largest c.problem.m (shifted_before c i)) (pos 0)
+row_degree_before c i = unwrap_or (largest c.problem.m (shifted_before c i)) (pos 0)
 
 -- "The leading matrix holds at (i, j) the coefficient of P's entry at the power (row degree − s_j), or 0 if the entry has none there
 -- or that power is negative."
@@ -54,45 +56,45 @@ degree_sum_before c = sum Integers c.problem.m (row_degree_before c) -ℤ sum In
 
 -- What each verdict said.
 abbrev pub SaidBefore : Claim → Verdict → Type 0
-SaidBefore c = SaysBy (ReducedBefore c) (some (degree_sum_before c)) c
+SaidBefore c = SaysBy (ReducedBefore c) (Some (degree_sum_before c)) c
 
 -- WHAT STAYS
 
 module _ (c : Claim) where
   -- The degree of a row was not below what it is now: the entry that has the degree now took part, …
-  not_below : (i : ℕ) (r : ℤ) → row_degree c.problem c.answer.P i ≡ some r → (k : ℕ) × (row_degree_before c i ≡ r +ℤ pos k)
+  not_below : (i : ℕ) (r : ℤ) → row_degree c.problem c.answer.P i ≡ Some r → (k : ℕ) × (row_degree_before c i ≡ r +ℤ pos k)
   unfolding row_degree_of
   not_below i r e =
       let (j, hj, top) = largest_is c.problem.m (λ j. shifted_degree_of (length (at c.answer.P i j)) (shift c.problem j)) r e in
       let (d, l, same) = shifted_is (length (at c.answer.P i j)) (shift c.problem j) r top in
-      by j hj (ap (λ n. some (pos (pred n) +ℤ shift c.problem j)) l ∙ ap some (sym same)) (largest c.problem.m (shifted_before c i)) refl
+      by j hj (ap (λ n. Some (pos (pred n) +ℤ shift c.problem j)) l ∙ ap Some (sym same)) (largest c.problem.m (shifted_before c i)) refl
     where
-      by : (j : ℕ) → j < c.problem.m → shifted_before c i j ≡ some r
-          → (o : Option ℤ) → largest c.problem.m (shifted_before c i) ≡ o → (k : ℕ) × (get_or o (pos 0) ≡ r +ℤ pos k)
-      by j hj h none none_left = absurd (some-ne-none _ (largest_none c.problem.m (shifted_before c i) none_left j hj))
-      by j hj h (some z) top = largest_above c.problem.m (shifted_before c i) z top j r hj h
+      by : (j : ℕ) → j < c.problem.m → shifted_before c i j ≡ Some r
+          → (o : Option ℤ) → largest c.problem.m (shifted_before c i) ≡ o → (k : ℕ) × (unwrap_or o (pos 0) ≡ r +ℤ pos k)
+      by j hj h None none_left = absurd (some_none _ (largest_none c.problem.m (shifted_before c i) none_left j hj))
+      by j hj h (Some z) top = largest_above c.problem.m (shifted_before c i) z top j r hj h
 
   module _ (reduced : ReducedBefore c) where
     -- … and where it was above, or there is none now, the row of the leading matrix was 0, and so its determinant.
-    row_degree_kept : (i : ℕ) → i < c.problem.m → row_degree c.problem c.answer.P i ≡ some (row_degree_before c i)
+    row_degree_kept : (i : ℕ) → i < c.problem.m → row_degree c.problem c.answer.P i ≡ Some (row_degree_before c i)
     row_degree_kept i hi = by (row_degree c.problem c.answer.P i) refl
       where
         nonzero : ¬ ((j : ℕ) → j < c.problem.m → leading_before c i j ≡ (field_of c).𝟘)
         nonzero zeros = reduced (det_zero_row (field_of c) c.problem.m (leading_before c) i hi zeros)
 
-        at_distance : (r : ℤ) → row_degree c.problem c.answer.P i ≡ some r
-            → (k : ℕ) → row_degree_before c i ≡ r +ℤ pos k → some r ≡ some (row_degree_before c i)
-        at_distance r e zero over = ap some (sym (over ∙ +ℤ_idr r))
+        at_distance : (r : ℤ) → row_degree c.problem c.answer.P i ≡ Some r
+            → (k : ℕ) → row_degree_before c i ≡ r +ℤ pos k → Some r ≡ Some (row_degree_before c i)
+        at_distance r e zero over = ap Some (sym (over ∙ +ℤ_idr r))
         at_distance r e (suc k) over =
             absurd (nonzero (λ j hj. ap (λ x. coefficient (field_of c) (x -ℤ shift c.problem j) (series_P c i j)) over
             ∙ row_coefficient_above (field_of c) c.problem.m (shift c.problem) r k (series_P c i)
             (λ j hj. entry_at_most c.problem c.answer.P i j r e hj) j hj))
 
-        by : (o : Option ℤ) → row_degree c.problem c.answer.P i ≡ o → o ≡ some (row_degree_before c i)
-        by none e =
+        by : (o : Option ℤ) → row_degree c.problem c.answer.P i ≡ o → o ≡ Some (row_degree_before c i)
+        by None e =
             absurd (nonzero (λ j hj. coefficient_zeros (field_of c) (row_degree_before c i -ℤ shift c.problem j) (series_P c i j)
             (no_degree_zero c.problem c.answer.P i j e hj)))
-        by (some r) e = let (k, over) = not_below i r e in at_distance r e k over
+        by (Some r) e = let (k, over) = not_below i r e in at_distance r e k over
 
     leading_kept : (i j : ℕ) → i < c.problem.m → j < c.problem.m → leading_before c i j ≡ leading_matrix c.problem c.answer.P i j
     leading_kept i j hi hj = rw (row_degree_kept i hi, leading_matrix)
@@ -100,14 +102,14 @@ module _ (c : Claim) where
     pub reduced_kept : Reduced c
     reduced_kept z = reduced (det_local (field_of c) c.problem.m (leading_before c) (leading_matrix c.problem c.answer.P) leading_kept ∙ z)
 
-    pub degree_sum_kept : degree_sum c.problem c.answer.P ≡ some (degree_sum_before c)
+    pub degree_sum_kept : degree_sum c.problem c.answer.P ≡ Some (degree_sum_before c)
     degree_sum_kept = degree_sum_is c.problem c.answer.P (row_degree_before c) row_degree_kept
 
   -- What was reduced is reduced, with the same row degrees and the same Δ.
   pub reduced_before_degrees : ReducedBefore c
-      → ((i : ℕ) → i < c.problem.m → row_degree c.problem c.answer.P i ≡ some (row_degree_before c i))
+      → ((i : ℕ) → i < c.problem.m → row_degree c.problem c.answer.P i ≡ Some (row_degree_before c i))
       × Reduced c
-      × (degree_sum c.problem c.answer.P ≡ some (degree_sum_before c))
+      × (degree_sum c.problem c.answer.P ≡ Some (degree_sum_before c))
   reduced_before_degrees reduced = (row_degree_kept reduced, reduced_kept reduced, degree_sum_kept reduced)
 
 -- WHAT DOES NOT

@@ -4,7 +4,7 @@ use Rattle.std.specs.Prelude.{◌≡◌, Bool, cond, List, ℕ, suc, ◌<◌, ge
 use Rattle.std.proofs.Math.Path.{refl, ap, ap₂, fun_ext}
 use Rattle.std.proofs.Common.{sym, ◌∙◌, ltb-true}
 use Rattle.std.proofs.Math.Bool.{true, false, not}
-use Rattle.std.proofs.Math.Option.{Option, none, some}
+use Rattle.std.specs.Prelude.{Option, None, Some}
 use Rattle.std.proofs.Math.Dec.{leb, ltb}
 use Rattle.algebra.specs.Ring.{power}
 use Rattle.algebra.specs.Residue.{Residue, red}
@@ -26,7 +26,7 @@ UnreadNumbers = (s t : List ℕ) (c : Claim) (q : Place) → read_claim s t ≡ 
     → (point : ℕ) → judge_drawn s t u point ≡ judge_drawn s t v point
 
 abbrev by_tests : Option ℕ → Bool → Drawn
-by_tests o b = elim o [ some place ↦ too_large place | none ↦ cond b may_pass turned_away ]
+by_tests o b = elim o [ Some place ↦ too_large place | None ↦ cond b may_pass turned_away ]
 
 -- Two lists with the same first m numbers: every number drawn that is read is the same, …
 module _ (c : Claim) (u v : List ℕ) (same : (i : ℕ) → i < c.problem.m → get_or u i 0 ≡ get_or v i 0) (point : ℕ) where

@@ -8,7 +8,7 @@
 --   shifted_rows_degrees                           shifts 0 and 1
 use Rattle.std.specs.Prelude.{◌≡◌, refl, List, [], ◌∷◌, map, ℕ, zero, suc, ◌%◌, ◌<◌, ℤ, pos}
 use Rattle.std.proofs.Common.{arith}
-use Rattle.std.proofs.Math.Option.{Option, some}
+use Rattle.std.specs.Prelude.{Option, Some}
 use Rattle.rules.specs.Claim.{Claim}
 use Rattle.rules.specs.Conditions.{row_degree, sum_below}
 use Rattle.rules.specs.Verdict.{passed, judge_claim}
@@ -31,7 +31,7 @@ abbrev pub four_plus_X : Claim
 four_plus_X = one_by_one 5 1 (pos 0) (4 ∷ 1 ∷ []) (0 ∷ []) 0
 
 -- With the shifts 0 and 0 both row degrees are 1, by computation.
-pub two_rows_degrees : (i : ℕ) → i < 2 → row_degree two_rows.problem two_rows.answer.P i ≡ some (pos 1)
+pub two_rows_degrees : (i : ℕ) → i < 2 → row_degree two_rows.problem two_rows.answer.P i ≡ Some (pos 1)
 unfolding run_verdict
 two_rows_degrees zero h = refl
 two_rows_degrees (suc zero) h = refl
@@ -51,6 +51,6 @@ abbrev pub shifted_rows : Claim
 shifted_rows = two_by_one (pos 0) (pos 1) 0 1
 
 pub shifted_rows_degrees :
-    ◌≡◌ {A = List (Option ℤ)} (map (row_degree shifted_rows.problem shifted_rows.answer.P) (0 ∷ 1 ∷ [])) (some (pos 1) ∷ some (pos 2) ∷ [])
+    ◌≡◌ {A = List (Option ℤ)} (map (row_degree shifted_rows.problem shifted_rows.answer.P) (0 ∷ 1 ∷ [])) (Some (pos 1) ∷ Some (pos 2) ∷ [])
 unfolding run_verdict
 shifted_rows_degrees = refl

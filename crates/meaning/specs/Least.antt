@@ -10,7 +10,7 @@
 --   IsPassed, Least, PassMeansLeast      what a pass says
 --   SameRowDegrees, PassesAgree          what the passes of two answers to one problem say
 use Rattle.std.specs.Prelude.{◌≡◌, ◌≢◌, ◌↔◌, List, [], ℕ, ◌%◌, ◌<◌, ℤ, pos, ◌+ℤ◌, length, get_or}
-use Rattle.std.proofs.Math.Option.{some}
+use Rattle.std.specs.Prelude.{Some}
 use Rattle.rules.specs.Claim.{Problem, Claim}
 use Rattle.rules.specs.Matrices.{shift}
 use Rattle.rules.specs.Conditions.{row_degree}
@@ -72,7 +72,7 @@ Lowest m r i = (i < m) × ((k : ℕ) → k < m → r i at_most r k)
 pub record Least (c : Claim) : Type 0 where
   -- Each row of P has a row degree, by document 01's rule as L2 changed it: that of row i is r i, …
   pub r : ℕ → ℤ
-  pub row_degrees : (i : ℕ) → i < c.problem.m → row_degree c.problem c.answer.P i ≡ some (r i)
+  pub row_degrees : (i : ℕ) → i < c.problem.m → row_degree c.problem c.answer.P i ≡ Some (r i)
   -- … and it is the row's shifted degree.
   pub own_degrees : (i : ℕ) → i < c.problem.m → ShiftedDegree c.problem (coefficients (get_or c.answer.P i [])) (r i)
   -- "combine the basis rows with polynomial multipliers of any degree, not all zero": then there is a largest of the row degrees plus the

@@ -4,7 +4,7 @@
 --   FirstAt, Nowhere                                         the first place that has a fault; no place has one
 --   SaysBy, Says c v                                         what the verdict v says of the claim c
 use Rattle.std.specs.Prelude.{◌≡◌, ◌≢◌, [], ℕ, ◌+◌, ◌%◌, ◌<◌, ℤ, pos, get_or}
-use Rattle.std.proofs.Math.Option.{Option, some}
+use Rattle.std.specs.Prelude.{Option, Some}
 use Rattle.algebra.specs.Matrix.{Matrix}
 use Rattle.algebra.specs.Det.{det}
 use Rattle.algebra.specs.Dependence.{Dependent, Independent}
@@ -85,7 +85,7 @@ SaysBy IsReduced sum c (passed d) =
     × Nowhere c.problem.m c.problem.n (LowFault c)
     × Nowhere c.problem.m c.problem.n (OrderFault c)
     × FullRank c
-    × (sum ≡ some (pos d))
+    × (sum ≡ Some (pos d))
 SaysBy IsReduced sum c (unread r) = ⊥
 
 -- What each says by the rules.

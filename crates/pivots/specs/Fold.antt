@@ -5,7 +5,7 @@ use Rattle.std.specs.Prelude.{◌≡◌, Bool, true, false, not, List, eqb, ℤ,
 use Rattle.std.proofs.Math.Path.{refl, sym, ap}
 use Rattle.std.proofs.Common.{◌∙◌, lt-ltb, le-ltb}
 use Rattle.std.proofs.Math.Bool.{cond}
-use Rattle.std.proofs.Math.Option.{none, some}
+use Rattle.std.specs.Prelude.{None, Some}
 use Prim.Native.Nat.{ℕ, zero, suc, ◌≤◌, ◌<◌}
 use Rattle.algebra.specs.Residue.{K}
 use Rattle.algebra.specs.Matrix.{Matrix}
@@ -47,13 +47,13 @@ module _ (p m : ℕ) (degree : ℕ → ℤ) (A : Matrix (K p)) where
     next_is = found ∙ next_row_cong m degree degree (is_taken taken) c.taken (λ i hi. refl)
         (λ i hi. ap (λ x. not (eqb x 0)) (h.reflects.taken_is i hi) ∙ taken_once (c.taken i))
 
-    some_is : r < m → next_row m degree c.taken ≡ some r
+    some_is : r < m → next_row m degree c.taken ≡ Some r
     unfolding row_found
-    some_is hr = sym next_is ∙ ap (λ t. cond t (some r) none) (lt-ltb r m hr)
+    some_is hr = sym next_is ∙ ap (λ t. cond t (Some r) None) (lt-ltb r m hr)
 
-    none_is : m ≤ r → next_row m degree c.taken ≡ none
+    none_is : m ≤ r → next_row m degree c.taken ≡ None
     unfolding row_found
-    none_is hr = sym next_is ∙ ap (λ t. cond t (some r) none) (le-ltb r m hr)
+    none_is hr = sym next_is ∙ ap (λ t. cond t (Some r) None) (le-ltb r m hr)
 
     -- A row is taken …
     pub folds_taken : (moves' residuals' work' factors' : List ℕ) → r < m
@@ -63,7 +63,7 @@ module _ (p m : ℕ) (degree : ℕ → ℤ) (A : Matrix (K p)) where
     folds_taken moves' residuals' work' factors' hr takes = record {
       so_far = take_row p m most_rows all A r c;
       rest =
-          sym (ap {B = Chosen p} (λ o. elim o [ none ↦ c | some i ↦ take_rows p m most_rows all degree A left (take_row p m most_rows all A i c) ]) (some_is hr))
+          sym (ap {B = Chosen p} (λ o. elim o [ None ↦ c | Some i ↦ take_rows p m most_rows all degree A left (take_row p m most_rows all A i c) ]) (some_is hr))
           ∙ h.rest;
       reflects = takes A c taken refl (next_row_some degree c.taken m r (some_is hr)).1 h.reflects;
     }
@@ -75,7 +75,7 @@ module _ (p m : ℕ) (degree : ℕ → ℤ) (A : Matrix (K p)) where
       so_far = c;
       rest =
           none_left left
-          ∙ sym (ap {B = Chosen p} (λ o. elim o [ none ↦ c | some i ↦ take_rows p m most_rows all degree A left (take_row p m most_rows all A i c) ]) (none_is hr))
+          ∙ sym (ap {B = Chosen p} (λ o. elim o [ None ↦ c | Some i ↦ take_rows p m most_rows all degree A left (take_row p m most_rows all A i c) ]) (none_is hr))
           ∙ h.rest;
       reflects = h.reflects;
     }
@@ -83,7 +83,7 @@ module _ (p m : ℕ) (degree : ℕ → ℤ) (A : Matrix (K p)) where
         none_left : (count : ℕ) → take_rows p m most_rows all degree A count c ≡ c
         none_left zero = refl
         none_left (suc count) =
-            ap {B = Chosen p} (λ o. elim o [ none ↦ c | some i ↦ take_rows p m most_rows all degree A count (take_row p m most_rows all A i c) ]) (none_is hr)
+            ap {B = Chosen p} (λ o. elim o [ None ↦ c | Some i ↦ take_rows p m most_rows all degree A count (take_row p m most_rows all A i c) ]) (none_is hr)
 
   -- When no more are to be taken, the arrays say what was chosen.
   pub folds_end : (taken moves residuals work factors : List ℕ) → Folds zero taken moves residuals work factors → Chose p whole moves factors

@@ -8,7 +8,7 @@ use Rattle.std.proofs.Common.{subst, ◌∙◌, true≢false, arith, lt-ltb, le-
 use Rattle.std.proofs.Math.Logic.{inl, inr}
 use Rattle.std.proofs.Math.Bool.{true, false, cond}
 use Rattle.std.proofs.lemmas.Bool.{false≢true}
-use Rattle.std.proofs.Math.Option.{Option, none, some}
+use Rattle.std.specs.Prelude.{Option, None, Some}
 use borrow.Author.Count.{below_more}
 use Rattle.std.specs.Int.Signed.{le_z, lt_z, ≤ℤ_refl, le_z_yes, lt_z_yes, lt_z_no, clash_ℤ}
 use Rattle.algebra.specs.Integer.{more_trans}
@@ -31,7 +31,7 @@ Small degrees = (i : ℕ) → nat_abs (degree_at degrees i) < 2 ^ 30
 
 -- A row, or none where it is m.
 unfoldable pub row_found : ℕ → ℕ → Option ℕ
-row_found m r = cond (ltb r m) (some r) none
+row_found m r = cond (ltb r m) (Some r) None
 
 -- Row i was not taken, and is lower than the best so far, if there is one.
 unfoldable pub better : (ℕ → ℤ) → (ℕ → Bool) → (m i best : ℕ) → Bool
@@ -146,11 +146,11 @@ module _ (degree : ℕ → ℤ) (taken : ℕ → Bool) (m : ℕ) where
   pub best_next : (best : ℕ) → Best m best → row_found m best ≡ next_row m degree taken
   unfolding row_found next_row lower_left
   best_next best (inl (end, all)) =
-      ap (λ t. cond t (some best) none) (le-ltb best m (omega arith))
+      ap (λ t. cond t (Some best) None) (le-ltb best m (omega arith))
       ∙ sym ((first_below_none m (λ i. cond (taken i) false (not (lower_left m degree taken i)))).1
       (λ i hi. ap (λ t. cond t false (not (lower_left m degree taken i))) (all i hi)))
   best_next best (inr low) =
-      ap (λ t. cond t (some best) none) (lt-ltb best m low.inside)
+      ap (λ t. cond t (Some best) None) (lt-ltb best m low.inside)
       ∙ sym ((first_below_some m (λ i. cond (taken i) false (not (lower_left m degree taken i))) best).1 (
         low.inside,
         (unless_both (taken best) (lower_left m degree taken best)).1 (low.waits, none_lower),

@@ -7,7 +7,7 @@
 use Rattle.std.specs.Prelude.{◌≡◌, ◌≢◌, Bool, true, false, List, ℕ, ◌≤◌, ◌<◌, length, get_or, set}
 use Rattle.std.proofs.Math.Path.{refl, sym, ap}
 use Rattle.std.proofs.Common.{ap₂, subst, ◌∙◌, le_of_lt, lt_of_lt_of_le, mod-eq_of_lt, arith, length-set, get_or-set_same, get_or-set_other}
-use Rattle.std.proofs.Math.Option.{Option, none, some}
+use Rattle.std.specs.Prelude.{Option, None, Some}
 use Rattle.std.proofs.Math.Decide.{ℕ_discrete, dec_lt}
 use Rattle.algebra.specs.Ring as Ring
 use Rattle.algebra.specs.Prime.{Prime}
@@ -134,7 +134,7 @@ module _ (p : ℕ) (prime : Prime p) (m : ℕ) (rows : m ≤ most_rows) (A : Mat
     test = depends p m most_rows all A c.pivot i
 
     -- The constants that are found are those that T says, in every column.
-    found_is : (u : Row (K p)) → find_constants p m test ≡ some u → (q : ℕ) → q < most_rows → square_of p work i q ≡ less (K p) (λ k. u) i q
+    found_is : (u : Row (K p)) → find_constants p m test ≡ Some u → (q : ℕ) → q < most_rows → square_of p work i q ≡ less (K p) (λ k. u) i q
     unfolding less
     found_is u e q hq = elim (dec_lt q m) [
       | yes hm ↦
@@ -158,7 +158,7 @@ module _ (p : ℕ) (prime : Prime p) (m : ℕ) (rows : m ≤ most_rows) (A : Mat
             combination_found p m most_rows A c.taken c.pivot h.column (square_of p residuals) (square_of p work) h.reduced rows i hi waits
             (λ j hj. ap (red p) (zeros j hj) ∙ red_zero p)
 
-        now_factors : (u : Row (K p)) → find_constants p m test ≡ some u → (a q : ℕ) → a < most_rows → q < most_rows
+        now_factors : (u : Row (K p)) → find_constants p m test ≡ Some u → (a q : ℕ) → a < most_rows → q < most_rows
             → square_of p factors' a q ≡ unit (K p) a q ⊕ ⊖ replace i u c.multipliers a q
         now_factors u e a q ha hq = elim (ℕ_discrete a i) [
           | yes z ↦
@@ -173,13 +173,13 @@ module _ (p : ℕ) (prime : Prime p) (m : ℕ) (rows : m ≤ most_rows) (A : Mat
         ]
 
         by : (o : Option (Row (K p))) → find_constants p m test ≡ o → Reflects p m A (elim o [
-          | some u ↦ record { taken = replace i true c.taken; pivot = c.pivot; multipliers = replace i u c.multipliers }
-          | none ↦ record { taken = replace i true c.taken; pivot = replace i true c.pivot; multipliers = c.multipliers }
+          | Some u ↦ record { taken = replace i true c.taken; pivot = c.pivot; multipliers = replace i u c.multipliers }
+          | None ↦ record { taken = replace i true c.taken; pivot = replace i true c.pivot; multipliers = c.multipliers }
         ]) (set taken i 1) moves residuals work factors'
-        by none e = absurd ((false_iff _).0
+        by None e = absurd ((false_iff _).0
             (find_constants_none p positive m test (depends_local p m most_rows all A c.pivot i) e (λ q. unit (K p) i q ⊕ ⊖ square_of p work i q))
             ((depends_iff p m most_rows all A c.pivot i (λ q. unit (K p) i q ⊕ ⊖ square_of p work i q)).1 found))
-        by (some u) e = record {
+        by (Some u) e = record {
           room = record {
             moves_full = h.room.moves_full;
             residuals_full = h.room.residuals_full;
@@ -222,13 +222,13 @@ module _ (p : ℕ) (prime : Prime p) (m : ℕ) (rows : m ≤ most_rows) (A : Mat
             (λ a q ha hq w. x.cleared.work_less a q ha hq (now_taken a ha ∙ ap once w))
 
         by : (o : Option (Row (K p))) → find_constants p m test ≡ o → Reflects p m A (elim o [
-          | some u ↦ record { taken = replace i true c.taken; pivot = c.pivot; multipliers = replace i u c.multipliers }
-          | none ↦ record { taken = replace i true c.taken; pivot = replace i true c.pivot; multipliers = c.multipliers }
+          | Some u ↦ record { taken = replace i true c.taken; pivot = c.pivot; multipliers = replace i u c.multipliers }
+          | None ↦ record { taken = replace i true c.taken; pivot = replace i true c.pivot; multipliers = c.multipliers }
         ]) (set taken i 1) (set moves i 1) residuals' work' factors
-        by (some u) e = absurd (residual_nonzero
+        by (Some u) e = absurd (residual_nonzero
             ((combination_is p m most_rows A c.taken c.pivot h.column (square_of p residuals) (square_of p work) h.reduced rows i hi waits u
             ((depends_iff p m most_rows all A c.pivot i u).0 (find_constants_found p m test u e))).1 k hk))
-        by none e = record {
+        by None e = record {
           room = record {
             moves_full = length-set moves i 1 ∙ h.room.moves_full;
             residuals_full = x.cleared.residuals_full;

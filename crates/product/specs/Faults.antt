@@ -4,7 +4,7 @@
 --   place_of                 the answer of a search, as the code gives it
 use Rattle.std.specs.Prelude.{◌≡◌, ◌≢◌, Bool, true, false, not, List, ℕ, eqb, get_or}
 use Rattle.std.proofs.Common.{sym, ap, ◌∙◌, eq-eqb, ne_eqb}
-use Rattle.std.proofs.Math.Option.{Option, none, some}
+use Rattle.std.specs.Prelude.{Option, None, Some}
 use Rattle.rules.specs.Conditions.{is_zero, some_below}
 use Rattle.layout.specs.Flat.{square_place}
 use Rattle.claim.specs.declared.Head.{Head}
@@ -26,8 +26,8 @@ flat_order_fault head f entries c i j =
 
 -- The answer of a search, as the code gives it.
 abbrev pub place_of : Option (ℕ × ℕ) → FirstFault
-place_of none = Nowhere
-place_of (some at) = At at.0 at.1
+place_of None = Nowhere
+place_of (Some at) = At at.0 at.1
 
 -- What a coefficient tells of the test.
 module _ (head : Head) (f entries : List ℕ) (i j k r : ℕ) (e : r ≡ (flat_product head.p entries f head.m i j k).0) where

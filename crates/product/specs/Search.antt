@@ -5,7 +5,7 @@
 --   first_place_cong         only the tests of numbers in range count
 use Rattle.std.specs.Prelude.{◌≡◌, refl, Bool, true, false, ℕ, ◌≤◌, ◌<◌}
 use Rattle.std.proofs.Common.{◌∙◌, arith}
-use Rattle.std.proofs.Math.Option.{Option, none, some}
+use Rattle.std.specs.Prelude.{Option, None, Some}
 use Rattle.rules.specs.Conditions.{some_below, first_place}
 use Rattle.laws.specs.SearchLaws.{some_below_iff, some_below_false_iff, first_place_none, first_place_some}
 
@@ -26,12 +26,12 @@ pub record First (n : ℕ) (test : ℕ → Bool) (r : ℕ) : Type 0 where
   pub passes : r < n → test r ≡ true
 
 -- No row has a fault …
-pub first_place_fails : (m n : ℕ) (fault : ℕ → ℕ → Bool) → ((i : ℕ) → i < m → Fails n (fault i)) → first_place m n fault ≡ none
+pub first_place_fails : (m n : ℕ) (fault : ℕ → ℕ → Bool) → ((i : ℕ) → i < m → Fails n (fault i)) → first_place m n fault ≡ None
 first_place_fails m n fault h = (first_place_none m n fault).1 (λ i j hi hj. h i hi j hj)
 
 -- … or row i is the first, and column j the first in it.
 pub first_place_hit : (m n : ℕ) (fault : ℕ → ℕ → Bool) (i j : ℕ) → i < m → ((r : ℕ) → r < i → Fails n (fault r)) → j < n → First n (fault i) j
-    → first_place m n fault ≡ some (i, j)
+    → first_place m n fault ≡ Some (i, j)
 first_place_hit m n fault i j hi rows hj first =
     (first_place_some m n fault i j).1
     (record { row = hi; column = hj; faulty = first.passes hj; rows_before = λ a b ha hb. rows a ha b hb; columns_before = first.before })
@@ -41,8 +41,8 @@ pub first_place_cong : (m n : ℕ) (s t : ℕ → ℕ → Bool) → ((i j : ℕ)
 first_place_cong m n s t h = go (first_place m n t) refl
   where
     go : (o : Option (ℕ × ℕ)) → first_place m n t ≡ o → first_place m n s ≡ o
-    go none e = (first_place_none m n s).1 (λ i j hi hj. h i j hi hj ∙ (first_place_none m n t).0 e i j hi hj)
-    go (some (i, j)) e =
+    go None e = (first_place_none m n s).1 (λ i j hi hj. h i j hi hj ∙ (first_place_none m n t).0 e i j hi hj)
+    go (Some (i, j)) e =
         let f = (first_place_some m n t i j).0 e in
         (first_place_some m n s i j).1
         (record {

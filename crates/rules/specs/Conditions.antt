@@ -5,7 +5,7 @@
 --   degree_of, row_degree_of, degree_sum_of      degrees by the lengths of the entries, none for what is zero; of a claim: row_degree,
 --                                      degree_sum (Δ)
 use Rattle.std.specs.Prelude.{Bool, true, false, cond, not, List, [], ℕ, zero, suc, pred, ◌+◌, max, eqb, ℤ, pos, ◌+ℤ◌, ◌-ℤ◌, length, get_or}
-use Rattle.std.proofs.Math.Option.{Option, none, some}
+use Rattle.std.specs.Prelude.{Option, None, Some}
 use Rattle.std.specs.Int.Signed.{le_z}
 use Rattle.algebra.specs.Residue.{K, Residue, red}
 use Rattle.algebra.specs.Integer.{Integers}
@@ -31,12 +31,12 @@ some_below (suc n) test = elim (test zero) [ true ↦ true | false ↦ some_belo
 
 -- The degree of an entry with so many coefficients: "A zero entry has no degree" (document 02, L2).
 unfoldable pub degree_of : ℕ → Option ℕ
-degree_of zero = none
-degree_of (suc d) = some d
+degree_of zero = None
+degree_of (suc d) = Some d
 
 -- "degree plus that column's shift", by the length of the entry and the shift: none for a zero entry.
 unfoldable pub shifted_degree_of : ℕ → ℤ → Option ℤ
-shifted_degree_of length shift = elim (degree_of length) [ none ↦ none | some d ↦ some (pos d +ℤ shift) ]
+shifted_degree_of length shift = elim (degree_of length) [ None ↦ None | Some d ↦ Some (pos d +ℤ shift) ]
 
 -- The larger of two.
 abbrev pub max_z : ℤ → ℤ → ℤ
@@ -44,13 +44,13 @@ max_z a b = cond (le_z a b) b a
 
 -- The larger of two that may be none: none "takes no part".
 abbrev pub larger : Option ℤ → Option ℤ → Option ℤ
-larger none y = y
-larger (some a) none = some a
-larger (some a) (some b) = some (max_z a b)
+larger None y = y
+larger (Some a) None = Some a
+larger (Some a) (Some b) = Some (max_z a b)
 
 -- The largest of f 0, …, f (n − 1), none where all are.
 unfoldable pub largest : ℕ → (ℕ → Option ℤ) → Option ℤ
-largest zero f = none
+largest zero f = None
 largest (suc n) f = larger (f zero) (largest n (λ j. f (suc j)))
 
 -- "The degree of row i is the largest, over its entries, of degree plus that column's shift; it may be negative." "A row with no entry
@@ -65,8 +65,8 @@ row_degree b P i = row_degree_of b.m (λ j. length (at P i j)) (shift b)
 -- The coefficient of a polynomial at the power (row degree − shift), 0 "if the entry has none there or that power is negative", and 0 in a
 -- row that has no degree.
 abbrev pub leading_coefficient : (p : ℕ) → Option ℤ → ℤ → (ℕ → Residue p) → Residue p
-leading_coefficient p none s f = (K p).𝟘
-leading_coefficient p (some r) s f = coefficient (K p) (r -ℤ s) f
+leading_coefficient p None s f = (K p).𝟘
+leading_coefficient p (Some r) s f = coefficient (K p) (r -ℤ s) f
 
 -- "The leading matrix holds at (i, j) the coefficient of P's entry at the power (row degree − s_j)"
 abbrev pub leading_matrix : (b : Problem) → List (List (List ℕ)) → Matrix (K b.p)
@@ -109,19 +109,19 @@ monomial_determinant b P = eqb (count_nonzero b.p (determinant_bound b P) (deter
 
 -- The sum of two that may be none, …
 abbrev pub plus : Option ℤ → Option ℤ → Option ℤ
-plus none y = none
-plus (some a) none = none
-plus (some a) (some b) = some (a +ℤ b)
+plus None y = None
+plus (Some a) None = None
+plus (Some a) (Some b) = Some (a +ℤ b)
 
 -- … and that of f 0, …, f (n − 1): none where one is.
 unfoldable pub total : ℕ → (ℕ → Option ℤ) → Option ℤ
-total zero f = some (pos 0)
+total zero f = Some (pos 0)
 total (suc n) f = plus (f zero) (total n (λ i. f (suc i)))
 
 -- One that may be none, less an integer.
 abbrev pub less : Option ℤ → ℤ → Option ℤ
-less none s = none
-less (some a) s = some (a -ℤ s)
+less None s = None
+less (Some a) s = Some (a -ℤ s)
 
 -- "Δ is the sum of the row degrees less the sum of the shifts", by the lengths of the entries and the shifts: none where a row has no
 -- degree …
@@ -144,13 +144,13 @@ order_fault b P C i j = not (eqb (product b P i j (order b j)).0 (get_or (get_or
 
 -- The first number below n that passes the test.
 unfoldable pub first_below : ℕ → (ℕ → Bool) → Option ℕ
-first_below zero test = none
-first_below (suc n) test = elim (test zero) [ true ↦ some zero | false ↦ elim (first_below n (λ i. test (suc i))) [ none ↦ none | some i ↦ some (suc i) ] ]
+first_below zero test = None
+first_below (suc n) test = elim (test zero) [ true ↦ Some zero | false ↦ elim (first_below n (λ i. test (suc i))) [ None ↦ None | Some i ↦ Some (suc i) ] ]
 
 -- "the place is the first row that has a fault and in it the first column"
 unfoldable pub first_place : (m n : ℕ) → (ℕ → ℕ → Bool) → Option (ℕ × ℕ)
 first_place m n fault =
-    elim (first_below m (λ i. some_below n (fault i))) [ none ↦ none | some i ↦ elim (first_below n (fault i)) [ none ↦ none | some j ↦ some (i, j) ] ]
+    elim (first_below m (λ i. some_below n (fault i))) [ None ↦ None | Some i ↦ elim (first_below n (fault i)) [ None ↦ None | Some j ↦ Some (i, j) ] ]
 
 -- 4. RANK
 

@@ -8,7 +8,7 @@
 --   drawn_number, first_too_large    the numbers drawn, by their places, and the place of the first of p or more
 --   judge_drawn_claim, judge_drawn   which answer is given, for a claim and for two files
 use Rattle.std.specs.Prelude.{Bool, true, false, cond, not, List, ℕ, suc, leb, ltb, eqb, get_or}
-use Rattle.std.proofs.Math.Option.{Option, none, some}
+use Rattle.std.specs.Prelude.{Option, None, Some}
 use Rattle.algebra.specs.Ring.{power}
 use Rattle.algebra.specs.Residue.{K, Residue, red}
 use Rattle.algebra.specs.Sum.{sum}
@@ -73,8 +73,8 @@ first_too_large p m u point = first_below (suc m) (λ place. leb p (drawn_number
 unfoldable pub judge_drawn_claim : Claim → List ℕ → ℕ → Drawn
 judge_drawn_claim c u point =
     elim (first_too_large c.problem.p c.problem.m u point) [
-      | some place ↦ too_large place
-      | none ↦ cond (every_column_zero c.problem c.answer.P c.answer.C u point) may_pass turned_away
+      | Some place ↦ too_large place
+      | None ↦ cond (every_column_zero c.problem c.answer.P c.answer.C u point) may_pass turned_away
     ]
 
 -- Of two files: 16 comes "after 1 to 8".

@@ -3,7 +3,7 @@
 --   inverse p a              the inverse of a, or none
 --   InverseOf p a b          b is "the b with a × b = 1"
 use Rattle.std.specs.Prelude.{◌≡◌, ℕ, ◌*◌, ◌%◌, ◌<◌, eqb}
-use Rattle.std.proofs.Math.Option.{Option}
+use Rattle.std.specs.Prelude.{Option}
 use Rattle.rules.specs.Conditions.{first_below}
 
 -- The b below p with a × b = 1 modulo p, if there is one.

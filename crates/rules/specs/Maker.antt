@@ -9,7 +9,7 @@
 --   cut_problem              the problem with its orders and F's columns cut
 --   make_answer              P, C and the steps done
 use Rattle.std.specs.Prelude.{Bool, true, false, cond, not, List, [], ◌∷◌, ℕ, zero, suc, min, eqb, ltb, ℤ, pos, take}
-use Rattle.std.proofs.Math.Option.{Option, none, some, get_or}
+use Rattle.std.specs.Prelude.{Option, None, Some, unwrap_or}
 use Rattle.std.specs.Int.Signed.{le_z}
 use Rattle.algebra.specs.Residue.{K, Residue, red}
 use Rattle.algebra.specs.Sum.{replace}
@@ -27,7 +27,7 @@ use Rattle.rules.specs.Evidence.{evidence_of}
 
 -- The current row degree, by L2's rule. (Each row of a basis has one: 0 is never taken.)
 abbrev pub row_degree_now : Problem → List (List (List ℕ)) → ℕ → ℤ
-row_degree_now b P i = get_or (row_degree b P i) (pos 0)
+row_degree_now b P i = unwrap_or (row_degree b P i) (pos 0)
 
 -- A row that was not taken is lower than row i.
 unfoldable pub lower_left : (m : ℕ) → (ℕ → ℤ) → (ℕ → Bool) → ℕ → Bool
@@ -42,14 +42,14 @@ next_row m degree taken = first_below m (λ i. cond (taken i) false (not (lower_
 
 -- The first of f 0, …, f (n − 1) that is not none.
 unfoldable pub first_some : {A : Type 0} → ℕ → (ℕ → Option A) → Option A
-first_some zero f = none
-first_some (suc n) f = elim (f zero) [ some a ↦ some a | none ↦ first_some n (λ i. f (suc i)) ]
+first_some zero f = None
+first_some (suc n) f = elim (f zero) [ Some a ↦ Some a | None ↦ first_some n (λ i. f (suc i)) ]
 
 -- Constants, whose first m are numbers of K, that pass the test, if there are any: the search of `some_constants`.
 unfoldable pub find_constants : (p m : ℕ) → (Row (K p) → Bool) → Option (Row (K p))
-find_constants p zero test = elim (test (λ i. red p 0)) [ true ↦ some (λ i. red p 0) | false ↦ none ]
+find_constants p zero test = elim (test (λ i. red p 0)) [ true ↦ Some (λ i. red p 0) | false ↦ None ]
 find_constants p (suc m) test =
-    first_some p (λ x. elim (find_constants p m (λ u. test (cons (red p x) u))) [ none ↦ none | some u ↦ some (cons (red p x) u) ])
+    first_some p (λ x. elim (find_constants p m (λ u. test (cons (red p x) u))) [ None ↦ None | Some u ↦ Some (cons (red p x) u) ])
 
 -- "A row whose residual depends on those of earlier pivots": the residual of row i is the combination by u of those of the pivots, in the
 -- active columns.
@@ -77,15 +77,15 @@ none_taken p = record { taken = λ i. false; pivot = λ i. false; multipliers = 
 unfoldable pub take_row : (p m n : ℕ) → (ℕ → Bool) → Matrix (K p) → ℕ → Chosen p → Chosen p
 take_row p m n active A i c =
     elim (find_constants p m (depends p m n active A c.pivot i)) [
-      | some u ↦ record { taken = replace i true c.taken; pivot = c.pivot; multipliers = replace i u c.multipliers }
-      | none ↦ record { taken = replace i true c.taken; pivot = replace i true c.pivot; multipliers = c.multipliers }
+      | Some u ↦ record { taken = replace i true c.taken; pivot = c.pivot; multipliers = replace i u c.multipliers }
+      | None ↦ record { taken = replace i true c.taken; pivot = replace i true c.pivot; multipliers = c.multipliers }
     ]
 
 -- The rows that were not taken, at most so many of them, one after the other.
 unfoldable pub take_rows : (p m n : ℕ) → (ℕ → Bool) → (ℕ → ℤ) → Matrix (K p) → ℕ → Chosen p → Chosen p
 take_rows p m n active degree A zero c = c
 take_rows p m n active degree A (suc left) c =
-    elim (next_row m degree c.taken) [ none ↦ c | some i ↦ take_rows p m n active degree A left (take_row p m n active A i c) ]
+    elim (next_row m degree c.taken) [ None ↦ c | Some i ↦ take_rows p m n active degree A left (take_row p m n active A i c) ]
 
 -- "the columns with order above k"
 abbrev pub above : Problem → ℕ → ℕ → Bool

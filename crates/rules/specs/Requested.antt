@@ -3,7 +3,7 @@
 --   requested, requested_judged      the cases
 --   zero_row_degrees         a row of zeros has no degree, and then there is no Δ
 use Rattle.std.specs.Prelude.{◌≡◌, refl, List, [], ◌∷◌, map, ℕ, ℤ, pos, negsuc}
-use Rattle.std.proofs.Math.Option.{none, some}
+use Rattle.std.specs.Prelude.{None, Some}
 use Rattle.rules.specs.Claim.{Claim}
 use Rattle.rules.specs.Conditions.{row_degree, degree_sum}
 use Rattle.rules.specs.Verdict.{four}
@@ -70,6 +70,6 @@ zero_row = two_rows (pos 0) (pos 5) 0 0 one_zero_row 0 0
 
 pub zero_row_degrees :
     row_degree zero_row.problem zero_row.answer.P 0 ∷ row_degree zero_row.problem zero_row.answer.P 1 ∷ degree_sum zero_row.problem zero_row.answer.P ∷ []
-    ≡ some (pos 0) ∷ none ∷ none ∷ []
+    ≡ Some (pos 0) ∷ None ∷ None ∷ []
 unfolding run_verdict
 zero_row_degrees = refl

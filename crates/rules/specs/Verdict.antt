@@ -3,7 +3,7 @@
 --   judge_claim, verdict     which one is given
 --   packed                   the one number that the C host gets
 use Rattle.std.specs.Prelude.{true, false, cond, List, ℕ, ◌+◌, ◌*◌, ℤ, pos, negsuc}
-use Rattle.std.proofs.Math.Option.{Option, none, some}
+use Rattle.std.specs.Prelude.{Option, None, Some}
 use Rattle.rules.specs.Claim.{Claim}
 use Rattle.rules.specs.Reader.{Refusal, refused, got}
 use Rattle.rules.specs.Files.{read_claim}
@@ -54,8 +54,8 @@ natural (negsuc d) = 0
 
 -- A pass with Δ. "A row with no entry other than zero has no row degree and the verdict is 9" (document 02, L2): then there is no Δ.
 abbrev pub pass_with : Option ℤ → Verdict
-pass_with none = not_reduced
-pass_with (some sum) = passed (natural sum)
+pass_with None = not_reduced
+pass_with (Some sum) = passed (natural sum)
 
 -- Condition 4 decides what is left after the others.
 unfoldable pub by_rank : Claim → Verdict
@@ -65,10 +65,10 @@ by_rank c = cond (rank_below c.problem c.answer.P c.answer.C) low_rank (pass_wit
 unfoldable pub by_product : Claim → Verdict
 by_product c =
     elim (first_place c.problem.m c.problem.n (low_fault c.problem c.answer.P)) [
-      | some place ↦ below_order place.0 place.1
-      | none ↦
+      | Some place ↦ below_order place.0 place.1
+      | None ↦
           elim (first_place c.problem.m c.problem.n (order_fault c.problem c.answer.P c.answer.C))
-          [ some place ↦ at_order place.0 place.1 | none ↦ by_rank c ]
+          [ Some place ↦ at_order place.0 place.1 | None ↦ by_rank c ]
     ]
 
 -- "The first that applies is given, 1 to 8 in reading order, then 9 to 13 by number."

@@ -1,6 +1,6 @@
 use borrow.Author.Rules.{rules}
 use mathlib.Core.Path.{◌≡◌, sym, ap, ◌∙◌}
-use mathlib.Core.Option.{none, some}
+use Rattle.std.specs.Prelude.{None, Some}
 use mir.Syntax.{w32}
 use mir.Val.{to_z, of_z}
 use native.Mathlib.Omega.{arith}
@@ -49,7 +49,7 @@ returns-in_default-degree_sum c =
     let claimed = claim_of a.head a.f.now a.lengths.now a.entries.now a.c.now in
     let l = c.loop-code in
     all_tried claimed l.code not_reduced (omega arith) l.invariant
-    (all_found a.head a.f.now a.lengths.now a.entries.now a.c.now c.requires none
+    (all_found a.head a.f.now a.lengths.now a.entries.now a.c.now c.requires None
     (sym (ap degree c.in_default-degree_sum.is) ∙ c.degree_sum.ensures))
 
 pub returns : goal.returns
@@ -60,5 +60,5 @@ returns c =
     let sum_back : to_z w32 (of_z w32 c.in-Of.sum) ≡ c.in-Of.sum = search rules in
     ap passed (c.not_negative.ensures ∙ ap natural sum_back)
     ∙ all_tried claimed l.code (passed (natural c.in-Of.sum)) (omega arith) l.invariant
-    (all_found a.head a.f.now a.lengths.now a.entries.now a.c.now c.requires (some c.in-Of.sum)
+    (all_found a.head a.f.now a.lengths.now a.entries.now a.c.now c.requires (Some c.in-Of.sum)
     (sym (ap degree c.in-Of.is) ∙ c.degree_sum.ensures))

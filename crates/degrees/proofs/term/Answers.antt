@@ -5,13 +5,13 @@ use Rattle.rules.specs.Conditions.{shifted_degree_of}
 use Rattle.degrees.proofs.Degrees.{shift_back}
 use Rattle.degrees.proofs.term.Goals as goal
 
-pub offset_bounds-lengths-square_place : goal.offset_bounds-lengths-square_place
+pub offset_bounds-basis-square_place : goal.offset_bounds-basis-square_place
 unfolding most_rows square_place
-offset_bounds-lengths-square_place c = search rules
+offset_bounds-basis-square_place c = search rules
 
-pub bounds-lengths-square_place : goal.bounds-lengths-square_place
+pub bounds-basis-square_place : goal.bounds-basis-square_place
 unfolding most_rows square_place
-bounds-lengths-square_place c = search rules
+bounds-basis-square_place c = search rules
 
 pub offset_bounds-head-j : goal.offset_bounds-head-j
 unfolding most_rows
@@ -24,11 +24,11 @@ bounds-head-j c = search rules
 pub shifted_degree-requires : goal.shifted_degree-requires
 shifted_degree-requires c = (
   c.requires.sized.length_most c.square_place.result,
-  rw (shift_back c.args.lengths.now c.args.head.shifts c.requires.sized c.args.j) (c.requires.sized.shift_most c.args.j),
+  rw (shift_back c.args.basis.now.lengths c.args.head.now.shifts c.requires.sized c.args.j) (c.requires.sized.shift_most c.args.j),
 )
 
 pub returns : goal.returns
 returns c =
     c.shifted_degree.ensures
-    ∙ ap₂ shifted_degree_of (ap (λ k. get_or c.args.lengths.now k 0) c.square_place.ensures)
-    (shift_back c.args.lengths.now c.args.head.shifts c.requires.sized c.args.j)
+    ∙ ap₂ shifted_degree_of (ap (λ k. get_or c.args.basis.now.lengths k 0) c.square_place.ensures)
+    (shift_back c.args.basis.now.lengths c.args.head.now.shifts c.requires.sized c.args.j)
