@@ -1,7 +1,9 @@
 -- Text that is put together in a lent array, one piece after the other.
 --   Appended before after at end text      the text stands from `at` to `end`, and no other byte has changed
-use Rattle.std.specs.Prelude.{◌≡◌, refl, List, [], ◌∷◌, ◌++◌, ℕ, zero, suc, ◌+◌, ◌≤◌, ◌<◌, length, get_or, take, drop, set}
-use Rattle.std.proofs.Common.{sym, ap, ap₂, subst₂, ◌∙◌, append_assoc, append-nil, add-zero, zero-add, suc-add, add_assoc, add-one, arith, take-suc-set, take-suc, drop-set-lt, length-set, length-append, length-take, take-append-drop}
+use Rattle.std.specs.Prelude.{◌≡◌, refl, List, [], ◌∷◌, ◌++◌, ℕ, zero, suc, ◌+◌, ◌≤◌, ◌<◌, length, take, drop, set}
+use Rattle.std.proofs.Common.{sym, ap, ap₂, ◌∙◌, append_assoc, append-nil, add-zero, zero-add, suc-add, add_assoc, add-one, arith, take-suc-set, drop-set-lt, length-set, length-append, length-take, length-drop, take-append-drop}
+use Rattle.std.proofs.lemmas.Slice.{take-put_mid, drop-put_mid}
+use borrow.Rule.Slice.PartMut.{put_mid}
 
 -- What stood before `at` stands there still, `text` stands behind it and ends at `end`, and from there on every byte is as before.
 pub record Appended (before after : List ℕ) (at end : ℕ) (text : List ℕ) : Type 0 where
@@ -38,14 +40,14 @@ appended_both l l' l'' at e f t u x y = record {
   same_length = y.same_length ∙ x.same_length;
 }
 
--- One byte more of a text.
-pub appended_next :
-    (l l' text : List ℕ) (at i : ℕ) → i < length text → at + length text ≤ length l → Appended l l' at (at + i) (take i text)
-    → Appended l (set l' (at + i) (get_or text i 0)) at (at + (i + 1)) (take (i + 1) text)
-appended_next l l' text at i h fits x =
-    subst₂ (Appended l (set l' (at + i) (get_or text i 0)) at) (add_assoc at i 1) (sym (ap (λ k. take k text) (add-one i) ∙ take-suc text i 0 h))
-    (appended_both l l' (set l' (at + i) (get_or text i 0)) at (at + i) (at + i + 1) (take i text) (get_or text i 0 ∷ []) x
-    (appended_byte l' (at + i) (get_or text i 0) (omega (arith, x.same_length))))
+-- A whole text, in the place of as many bytes.
+pub appended_text : (l text : List ℕ) (at k : ℕ) → k ≡ length text → at + length text ≤ length l → Appended l (put_mid at k l text) at (at + length text) text
+appended_text l text at k e fits = record {
+  ends = refl;
+  holds = take-put_mid at k l text (at + length text) refl (omega arith);
+  rest = drop-put_mid at k l text (at + length text) (omega arith) (omega arith) (sym e);
+  same_length = simp (length-append, length-take, length-drop) (omega arith);
+}
 
 -- The text settles where it ends and every byte of the array afterwards.
 pub appended_unique : (l x y : List ℕ) (at e f : ℕ) (t : List ℕ) → Appended l x at e t → Appended l y at f t → (e ≡ f) × (x ≡ y)

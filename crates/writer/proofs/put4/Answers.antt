@@ -2,4 +2,4 @@ use Rattle.writer.specs.FourBytes.{four_bytes}
 use Rattle.writer.proofs.put4.Goals as goal
 
 pub returns : goal.returns
-returns c = four_bytes c.args.out.now c.args.at c.args.v c.requires
+returns c = rw (four_bytes c.args.v, ← c.to_le_bytes.ensures) c.put_text.ensures

@@ -1,7 +1,6 @@
 use Rattle.std.proofs.Common.{arith}
-use Rattle.writer.specs.Appended.{appended_next}
+use Rattle.writer.specs.Appended.{appended_text}
 use Rattle.writer.proofs.put_text.Goals as goal
 
-pub loop-i-preserved : goal.loop-i-preserved
-loop-i-preserved c =
-    (omega arith, appended_next c.args.out.now c.loop-i.out c.args.text.now c.args.at c.loop-i.i (omega arith) c.requires c.loop-i.invariant.1)
+pub returns : goal.returns
+returns c = rw c.copy_from_slice.ensures.after (appended_text c.args.out.now c.args.text.now c.args.at _ (omega arith) c.requires)
