@@ -1,7 +1,6 @@
 -- Each public function's contract leaves one result.
 use mathlib.Core.Path.{refl, sym, ◌∙◌}
 use Rattle.unique.specs.OneResult.{OneResult}
-use Rattle.field.specs.Meant.{meant_injective}
 use Rattle.field.proofs.modulus_of.Kinds as modulus_of_kinds
 use Rattle.field.proofs.modulus_of.Reads as modulus_of
 use Rattle.field.proofs.add_mod.Kinds as add_mod_kinds
@@ -31,4 +30,4 @@ pub mul_mod_unique : OneResult mul_mod_kinds.ps mul_mod_kinds.r mul_mod.Asked mu
 mul_mod_unique κs a z z' w w' asked h h' = (h ∙ sym h', refl)
 
 pub inverse_mod_unique : OneResult inverse_mod_kinds.ps inverse_mod_kinds.r inverse_mod.Asked inverse_mod.Learnt
-inverse_mod_unique κs a z z' w w' asked h h' = (meant_injective z z' (h ∙ sym h'), refl)
+inverse_mod_unique κs a z z' w w' asked h h' = (h ∙ sym h', refl)

@@ -1,5 +1,5 @@
 // The field of the bench jobs, the numbers modulo 251: its inverses stand in a table.
-ghost use Rattle.std.specs.Prelude.{◌≡◌, ◌<◌};
+ghost use Rattle.std.specs.Prelude.{◌<◌};
 ghost use Rattle.rules.specs.Inverse.{InverseOf};
 ghost use Rattle.field.specs.Table.{Inverses};
 
@@ -20,14 +20,6 @@ const INVERSES: [u8; 250] = [
     222, 10, 115, 120, 57, 239, 138, 66, 237, 59, 47, 184, 233, 193, 230, 114, 25, 223, 94, 215, 209, 50, 188, 167, 125, 250,
 ];
 
-// x: any number.
-// The same number, wider.
-fn wide(x: u8) -> u32
-    ensures { result ≡ x }
-{
-    x as u32
-}
-
 // inverses: the inverses of 1, 2, …, 250. a: one of these numbers.
 // The inverse of a.
 fn listed(inverses: &[u8; 250], a: u32) -> u32
@@ -36,7 +28,7 @@ fn listed(inverses: &[u8; 250], a: u32) -> u32
     requires a_bound { a < 251 }
     ensures { InverseOf 251 a result }
 {
-    wide(inverses[(a - 1) as usize])
+    u32::from(inverses[(a - 1) as usize])
 }
 
 // a: from 1 to 250.

@@ -4,7 +4,6 @@
 ghost use Rattle.std.specs.Prelude.{◌≡◌, ◌+◌, ◌-◌, ◌*◌, ◌%◌, ◌<◌};
 ghost use Rattle.algebra.specs.Prime.{Prime};
 ghost use Rattle.rules.specs.Inverse.{inverse, InverseOf};
-ghost use Rattle.field.specs.Meant.{meant};
 ghost use Rattle.field.specs.Modulus.{modulus_of};
 
 mod bench_field;
@@ -25,7 +24,7 @@ pub fn modulus_of(p: u32) -> Modulus
     requires { 0 < p }
     ensures { result ≡ modulus_of p }
 {
-    let fold = (CUT % p as u64) as u32;
+    let fold = (CUT % u64::from(p)) as u32;
     Modulus { p, fold }
 }
 
@@ -65,8 +64,8 @@ pub fn mul_mod(a: u32, b: u32, p: u32) -> u32
     requires { 0 < p }
     ensures { result ≡ a * b % p }
 {
-    let product = a as u64 * b as u64;
-    (product % p as u64) as u32
+    let product = u64::from(a) * u64::from(b);
+    (product % u64::from(p)) as u32
 }
 
 // p: a prime. a: a number below p, other than 0.
@@ -103,22 +102,15 @@ fn inverse_of(a: u32, p: u32) -> u32
     }
 }
 
-// The inverse of a number: a number, or none.
-#[derive(Clone, Copy)]
-pub enum Inverse {
-    Of(u32),
-    None,
-}
-
 // p: a prime. a: a number below p.
 // The number below p whose product with a is 1 modulo p; 0 has none.
-pub fn inverse_mod(a: u32, p: u32) -> Inverse
+pub fn inverse_mod(a: u32, p: u32) -> Option<u32>
     requires prime { Prime p }
     requires a_lt_p { a < p }
-    ensures { meant result ≡ inverse p a }
+    ensures { result ≡ inverse p a }
 {
     match a {
-        0 => Inverse::None,
-        _ => Inverse::Of(inverse_of(a, p)),
+        0 => None,
+        _ => Some(inverse_of(a, p)),
     }
 }

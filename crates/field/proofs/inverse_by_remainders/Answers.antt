@@ -31,12 +31,6 @@ ended {a} {p} {r} {c} prime last h =
 pub loop-r-init : goal.loop-r-init
 loop-r-init c = started _ _ c.requires.a_nonzero c.requires.a_lt_p
 
-pub neg_mod-c-requires : goal.neg_mod-c-requires
-neg_mod-c-requires c = remainder_below _ _ _ (omega arith) c.mul_mod.ensures
-
-pub loop-r-smaller : goal.loop-r-smaller
-loop-r-smaller c = mod-lt _ c.loop-r.invariant.positive
-
 pub loop-r-preserved : goal.loop-r-preserved
 loop-r-preserved c = turned _ _ c.requires.prime (omega arith) c.loop-r.invariant c.mul_mod.ensures c.neg_mod-c.ensures
 

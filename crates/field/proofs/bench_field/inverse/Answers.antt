@@ -3,10 +3,6 @@ use mathlib.Core.Path.{refl}
 use Rattle.field.specs.Table.{inverts, inverses_from, inverses_of}
 use Rattle.field.proofs.bench_field.inverse.Goals as goal
 
-pub listed-requires : goal.listed-requires
+pub listed-requires-clause-inverses : goal.listed-requires-clause-inverses
 unfolding inverts inverses_from
-listed-requires c =
-    record { inverses = inverses_of _ _ tt refl; a_nonzero = c.requires.a_nonzero; a_bound = c.requires.a_bound }
-
-pub returns : goal.returns
-returns c = c.listed.ensures
+listed-requires-clause-inverses c = inverses_of _ _ tt refl
