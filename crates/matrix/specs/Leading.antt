@@ -1,15 +1,15 @@
 -- Condition 1 over the flat arrays: the leading matrix.
---   at_power z f, exponent_of z    the coefficient of f at the integer z, 0 where z is negative; the number at which it stands
+--   at_power z f             the coefficient of f at the integer z, 0 where z is negative
+--   at_converted, at_unconverted     by what a conversion makes of z
 --   at_degree, leading_number      the numbers of the leading matrix
 --   leading_array            modulo p it is that of the polynomials
-use Rattle.std.specs.Prelude.{◌≡◌, refl, true, false, List, [], ℕ, ◌≤◌, ◌<◌, T, ℤ, pos, negsuc, nat_abs, ◌-ℤ◌, get_or}
-use Rattle.std.proofs.Common.{sym, ap, subst, ◌∙◌, arith, ltb-true}
-use Rattle.std.specs.Prelude.{Option, None, Some}
-use Rattle.std.specs.Int.Signed.{lt_z}
+use Rattle.std.specs.Prelude.{◌≡◌, refl, List, [], ℕ, ◌^◌, ◌≤◌, ◌<◌, ℤ, pos, negsuc, nat_abs, ◌-ℤ◌, get_or, Option, None, Some}
+use Rattle.std.proofs.Common.{sym, ap, ◌∙◌, arith}
+use Rattle.std.specs.Int.{FitsUnsignedBits}
 use Rattle.algebra.specs.Residue.{K, red}
 use Rattle.algebra.specs.Degree.{coefficient}
 use Rattle.rules.specs.Conditions.{row_degree_of, leading_coefficient}
-use Rattle.rules.specs.Sizes.{most_rows, most_length}
+use Rattle.rules.specs.Sizes.{most_rows}
 use Rattle.layout.specs.Flat.{length_at, shift_at, cell, cells, cell_below}
 use Rattle.layout.specs.Holds.{Each}
 use Rattle.matrix.specs.Fill.{array_of, array_of_at, array_of_below}
@@ -19,27 +19,17 @@ unfoldable pub at_power : ℤ → (ℕ → ℕ) → ℕ
 at_power (pos k) f = f k
 at_power (negsuc k) f = 0
 
--- The number of a power, and one at which no entry of P has a coefficient where it is negative.
-unfoldable pub exponent_of : ℤ → ℕ
-exponent_of (pos k) = k
-exponent_of (negsuc k) = most_length
+-- By what a conversion makes of the power: where it is a natural number what stands there, …
+pub at_converted : (z : ℤ) (k : ℕ) (f : ℕ → ℕ) → FitsUnsignedBits 64 z × (k ≡ nat_abs z) → at_power z f ≡ f k
+unfolding at_power
+at_converted (pos n) k f (fits, e) = ap f (sym e)
+at_converted (negsuc n) k f (fits, e) = absurd fits
 
--- What stands there is what stands at the power, if nothing stands from the largest length on.
-pub at_exponent : (z : ℤ) (f : ℕ → ℕ) → f most_length ≡ 0 → at_power z f ≡ f (exponent_of z)
-unfolding at_power exponent_of
-at_exponent (pos k) f past = refl
-at_exponent (negsuc k) f past = sym past
-
--- By the test of being below 0.
-pub exponent_negative : (z : ℤ) → lt_z z (pos 0) ≡ true → exponent_of z ≡ most_length
-unfolding exponent_of
-exponent_negative (pos k) t = absurd (let h : k < 0 = ltb-true k 0 t in omega arith)
-exponent_negative (negsuc k) t = refl
-
-pub exponent_nat_abs : (z : ℤ) → lt_z z (pos 0) ≡ false → exponent_of z ≡ nat_abs z
-unfolding exponent_of
-exponent_nat_abs (pos k) t = refl
-exponent_nat_abs (negsuc k) t = absurd (subst T t tt)
+-- … and 0 where it is none.
+pub at_unconverted : (z : ℤ) (f : ℕ → ℕ) → nat_abs z < 2 ^ 64 → (FitsUnsignedBits 64 z → ⊥) → at_power z f ≡ 0
+unfolding at_power
+at_unconverted (pos n) f small unfit = absurd (unfit small)
+at_unconverted (negsuc n) f small unfit = refl
 
 -- It is below p where all are.
 pub at_power_below : (p : ℕ) (z : ℤ) (f : ℕ → ℕ) → 0 < p → ((k : ℕ) → f k < p) → at_power z f < p

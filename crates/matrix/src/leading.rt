@@ -3,76 +3,53 @@ ghost use Rattle.std.specs.Prelude.{◌≡◌, ◌<◌, ◌≤◌};
 ghost use Rattle.rules.specs.Sizes.{most_rows};
 ghost use Rattle.layout.specs.Flat.{cell};
 ghost use Rattle.degrees.specs.Degrees.{Sized};
-ghost use Rattle.matrix.specs.Leading.{exponent_of, at_power, leading_number};
+ghost use Rattle.matrix.specs.Leading.{at_power, leading_number};
 ghost use Rattle.matrix.specs.Fill.{row_of, array_of};
 
-use claim::Head;
-use degrees::{Degree, minus, row_degree};
-use layout::{COLUMNS, ENTRY_COEFFICIENTS, LENGTH, ROWS, SQUARE, entry_place};
+use claim::{Basis, Head};
+use degrees::{minus, row_degree};
+use layout::{COLUMNS, LENGTH, ROWS, entry_place};
 
-// power: any number.
-// The number itself, and where it is negative one at which no entry has a coefficient.
-fn exponent(power: i32) -> usize
-    ensures { result ≡ exponent_of power }
-{
-    if power < 0 { LENGTH } else { power as usize }
-}
-
-// entries: the coefficients of P. i and j: a row and a column. power: any number.
+// basis: P. i and j: a row and a column. power: any number.
 // The coefficient of the entry there at the power, 0 where there is none or the power is negative.
-fn entry_at(entries: &[u32; ENTRY_COEFFICIENTS], power: i32, i: usize, j: usize) -> u32
+fn entry_at(basis: &Basis, power: i32, i: usize, j: usize) -> u32
     requires { (i < most_rows) × (j < most_rows) }
-    ensures { result ≡ at_power power (cell entries.now i j) }
+    ensures { result ≡ at_power power (cell basis.now.entries i j) }
 {
-    let k = exponent(power);
-    if k < LENGTH {
-        entries[entry_place(i, j, k)]
-    } else {
-        0
+    match usize::try_from(power) {
+        Ok(k) if k < LENGTH => basis.entries[entry_place(i, j, k)],
+        _ => 0,
     }
 }
 
-// head, lengths, entries: of a claim. i: a row.
+// head, basis: of a claim. i: a row.
 // The row i of the leading matrix, and zeros: only zeros where the row has no degree.
-fn leading_row<'a>(
-    head: Head,
-    lengths: &'a [usize; SQUARE],
-    entries: &'a [u32; ENTRY_COEFFICIENTS],
-    i: usize,
-) -> [u32; COLUMNS]
-    requires sized { Sized lengths.now head.shifts }
-    requires m_le_most_rows { (head.m ≤ most_rows) × (i < most_rows) }
-    ensures { result ≡ row_of head.m (leading_number entries.now lengths.now head.shifts head.m i) }
+fn leading_row(head: &Head, basis: &Basis, i: usize) -> [u32; COLUMNS]
+    requires sized { Sized basis.now.lengths head.now.shifts }
+    requires m_le_most_rows { (head.now.m ≤ most_rows) × (i < most_rows) }
+    ensures { result ≡ row_of head.now.m (leading_number basis.now.entries basis.now.lengths head.now.shifts head.now.m i) }
 {
     let mut row = [0; COLUMNS];
-    let Degree::Of(degree) = row_degree(head, lengths, i) else {
+    let Some(degree) = row_degree(head, basis, i) else {
         return row;
     };
-    let mut j = 0;
-    while j < head.m {
+    for j in 0..head.m {
         let power = minus(degree, head.shifts[j]);
-        row[j] = entry_at(entries, power, i, j);
-        j += 1;
+        row[j] = entry_at(basis, power, i, j);
     }
     row
 }
 
-// head, lengths, entries: of a claim.
+// head, basis: of a claim.
 // The leading matrix, and zeros.
-pub fn leading_matrix<'a>(
-    head: Head,
-    lengths: &'a [usize; SQUARE],
-    entries: &'a [u32; ENTRY_COEFFICIENTS],
-) -> [[u32; COLUMNS]; ROWS]
-    requires sized { Sized lengths.now head.shifts }
-    requires m_le_most_rows { head.m ≤ most_rows }
-    ensures { result ≡ array_of head.m head.m (leading_number entries.now lengths.now head.shifts head.m) }
+pub fn leading_matrix(head: &Head, basis: &Basis) -> [[u32; COLUMNS]; ROWS]
+    requires sized { Sized basis.now.lengths head.now.shifts }
+    requires m_le_most_rows { head.now.m ≤ most_rows }
+    ensures { result ≡ array_of head.now.m head.now.m (leading_number basis.now.entries basis.now.lengths head.now.shifts head.now.m) }
 {
     let mut rows = [[0; COLUMNS]; ROWS];
-    let mut i = 0;
-    while i < head.m {
-        rows[i] = leading_row(head, lengths, entries, i);
-        i += 1;
+    for i in 0..head.m {
+        rows[i] = leading_row(head, basis, i);
     }
     rows
 }

@@ -1,5 +1,5 @@
 // The matrices of document 01's conditions 1 and 4: the leading matrix, and [P(0) C].
-#![tactic(auto)]
+#![tactic(auto, unfolding(rules::specs::Sizes::most_rows, rules::specs::Sizes::most_length, layout::specs::Flat::entry_place, layout::specs::Flat::square_place))]
 
 pub mod leading;
 pub mod rank;

@@ -12,18 +12,6 @@ pub loop-i-init : goal.loop-i-init
 unfolding most_rows table zero_row
 loop-i-init c = (search rules, filled_none [] zero_row most_rows _ _ refl)
 
-pub offset_bounds-rows-i : goal.offset_bounds-rows-i
-unfolding most_rows
-offset_bounds-rows-i c = search rules
-
-pub bounds-rows-i : goal.bounds-rows-i
-unfolding most_rows
-bounds-rows-i c = omega arith
-
-pub overflow_add-i : goal.overflow_add-i
-unfolding most_rows
-overflow_add-i c = search rules
-
 pub loop-i-preserved : goal.loop-i-preserved
 unfolding most_rows
 loop-i-preserved c = (
@@ -34,5 +22,5 @@ loop-i-preserved c = (
 
 pub returns : goal.returns
 returns c =
-    filled_array c.args.head.m (leading_number c.args.entries.now c.args.lengths.now c.args.head.shifts c.args.head.m)
+    filled_array c.args.head.now.m (leading_number c.args.basis.now.entries c.args.basis.now.lengths c.args.head.now.shifts c.args.head.now.m)
     c.loop-i.invariant.1 (omega arith)

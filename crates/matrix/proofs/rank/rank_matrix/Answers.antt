@@ -13,18 +13,6 @@ pub loop-i-init : goal.loop-i-init
 unfolding most_rows table zero_row
 loop-i-init c = (search rules, filled_none [] zero_row most_rows _ _ refl)
 
-pub offset_bounds-rows-i : goal.offset_bounds-rows-i
-unfolding most_rows
-offset_bounds-rows-i c = search rules
-
-pub bounds-rows-i : goal.bounds-rows-i
-unfolding most_rows
-bounds-rows-i c = omega arith
-
-pub overflow_add-i : goal.overflow_add-i
-unfolding most_rows
-overflow_add-i c = search rules
-
 pub loop-i-preserved : goal.loop-i-preserved
 unfolding most_rows
 loop-i-preserved c = (
@@ -35,5 +23,5 @@ loop-i-preserved c = (
 
 pub returns : goal.returns
 returns c =
-    filled_array (c.args.head.m + c.args.head.n) (rank_number c.args.entries.now c.args.c.now c.args.head.m)
+    filled_array (c.args.head.now.m + c.args.head.now.n) (rank_number c.args.answer.now.basis.entries c.args.answer.now.c c.args.head.now.m)
     c.loop-i.invariant.1 (omega arith)
