@@ -2,13 +2,14 @@
 --   at a i j                 the entry in row i and column j, 0 past the end
 --   grid p a                 the matrix of residues modulo p
 --   Below p a                every entry is below p
---   Found a c r m k          k is the first row from r on, and below m, with an entry other than 0 in column c, or m
+--   Pivot a c r m k          k is the first row from r on, and below m, with an entry other than 0 in column c
+--   Found a c r m k          k is that row, or none where there is no such row
 --   Exchanged a i k b        b is a with the rows i and k exchanged
 --   RowLess p x f y c n z    z is the row x less f times the row y, in the columns from c to n
 --   Cleared p a v r c m n b  b is a with a multiple of row r taken from each row below it
 --   Stepped p a r c m n b    b is what a step of elimination leaves of a
 --   Left p a m n r c b       b is what elimination has left of a, at row r and column c
-use Rattle.std.specs.Prelude.{◌≡◌, ◌≢◌, ◌↔◌, List, [], ℕ, ◌+◌, ◌≤◌, ◌<◌, get_or}
+use Rattle.std.specs.Prelude.{◌≡◌, ◌≢◌, ◌↔◌, List, [], ℕ, ◌+◌, ◌≤◌, ◌<◌, Option, Some, None, get_or}
 use Rattle.algebra.specs.Residue.{K, red}
 use Rattle.algebra.specs.Sum.{swap}
 use Rattle.algebra.specs.Matrix.{Matrix}
@@ -28,12 +29,17 @@ grid p a i j = red p (at a i j)
 abbrev pub Below : ℕ → List (List ℕ) → Type 0
 Below p a = (i : ℕ) → Each p (get_or a i [])
 
--- Row k is the first from r on, of the rows below m, whose entry in column c is not 0; it is m where there is none.
-pub record Found (a : List (List ℕ)) (c r m k : ℕ) : Type 0 where
+-- Row k is the first from r on, of the rows below m, whose entry in column c is not 0 …
+pub record Pivot (a : List (List ℕ)) (c r m k : ℕ) : Type 0 where
   pub low : r ≤ k
-  pub high : k ≤ m
+  pub high : k < m
   pub passed : (i : ℕ) → i < k → r ≤ i → at a i c ≡ 0
-  pub found : k < m → at a k c ≢ 0
+  pub found : at a k c ≢ 0
+
+-- … or there is none, and the entry of each is 0.
+abbrev pub Found : List (List ℕ) → ℕ → ℕ → ℕ → Option ℕ → Type 0
+Found a c r m (Some k) = Pivot a c r m k
+Found a c r m None = (i : ℕ) → i < m → r ≤ i → at a i c ≡ 0
 
 -- The rows i and k have changed places, every other row stays.
 abbrev pub Exchanged : List (List ℕ) → ℕ → ℕ → List (List ℕ) → Type 0

@@ -4,7 +4,7 @@
 --   exchanged_below, stepped, stepped_last a step
 --   left_start, left_passed, left_stepped, left_settles      a column of the matrix, and the end
 --   settles_det                            from dependence to determinants
-use Rattle.std.specs.Prelude.{◌≡◌, refl, ◌≢◌, ◌↔◌, Bool, List, [], ℕ, ◌+◌, ◌-◌, ◌*◌, ◌%◌, ◌≤◌, ◌<◌, ltb, length, get_or, set}
+use Rattle.std.specs.Prelude.{◌≡◌, refl, ◌≢◌, ◌↔◌, Bool, List, [], ℕ, None, ◌+◌, ◌-◌, ◌*◌, ◌%◌, ◌≤◌, ◌<◌, ltb, length, get_or, set}
 use Rattle.std.proofs.Common.{sym, ap, ap₂, subst, ◌∙◌, le_of_lt, mod-eq_of_lt, arith, below_more, ltb-true, ltb-false, get_or-set_same, get_or-set_other}
 use Rattle.std.proofs.Math.Path.{fun_ext}
 use Rattle.std.proofs.Math.Logic.Iff
@@ -127,14 +127,14 @@ module _ (p : ℕ) where
   left_start a m n below = record { row_in = omega arith; column_in = omega arith; below = below; same = Iff.symm (rest_start (K p) m n (grid p a)) }
 
   -- … a column with no entry other than 0 is passed …
-  pub left_passed : (a : List (List ℕ)) (m n r c : ℕ) (b : List (List ℕ)) (k : ℕ) → Left p a m n r c b → c < n → Found b c r m k → m ≤ k → Left p a m n r
+  pub left_passed : (a : List (List ℕ)) (m n r c : ℕ) (b : List (List ℕ)) → Left p a m n r c b → c < n → Found b c r m None → Left p a m n r
       (c + 1) b
-  left_passed a m n r c b k left hc found none =
+  left_passed a m n r c b left hc none =
       record {
         row_in = left.row_in;
         column_in = omega arith;
         below = left.below;
-        same = Iff.trans left.same (rest_zero_column (K p) m n r c (grid p b) hc (λ i lo hi. ap (red p) (found.passed i (omega arith) lo)));
+        same = Iff.trans left.same (rest_zero_column (K p) m n r c (grid p b) hc (λ i lo hi. ap (red p) (none i hi lo)));
       }
 
   -- … a step goes on by a row and a column …

@@ -1,6 +1,5 @@
-// Whether the rows of a small matrix modulo a prime are dependent, by elimination. The matrix is handed about by value: each step
-// takes it and returns what it leaves.
-#![tactic(auto)]
+// Whether the rows of a small matrix modulo a prime are dependent, by elimination in the matrix, of which the caller hands over a copy.
+#![tactic(auto, unfolding(rules::specs::Sizes::most_rows))]
 
 ghost use Rattle.std.specs.Prelude.{◌≡◌, ◌≢◌, ◌<◌, ◌≤◌};
 ghost use Rattle.algebra.specs.Prime.{Prime};
@@ -13,7 +12,6 @@ ghost use Rattle.layout.specs.Holds.{Each};
 ghost use Rattle.layout.specs.Settles.{Settles};
 ghost use Rattle.elimination.specs.Grid.{at, grid, Below, Found, Exchanged, RowLess, Cleared, Stepped};
 
-use field::Inverse;
 use layout::{COLUMNS, ROWS};
 
 pub type Row = [u32; COLUMNS];
@@ -21,99 +19,84 @@ pub type Row = [u32; COLUMNS];
 pub type Grid = [Row; ROWS];
 
 // a: the matrix. c: a column. r: the row to start from. m: the number of rows.
-// The first row from r on whose entry in column c is not 0, or m.
-fn pivot_row(a: Grid, c: usize, r: usize, m: usize) -> usize
+// The first row from r on whose entry in column c is not 0, if there is one.
+fn pivot_row(a: &Grid, c: usize, r: usize, m: usize) -> Option<usize>
     requires c_lt_width { c < width }
     requires r_le_m { r ≤ m }
     requires m_le_most_rows { m ≤ most_rows }
-    ensures { Found a c r m result }
+    ensures { Found a.now c r m result }
 {
-    let mut k = r;
-    while k < m {
+    for k in r..m {
         if a[k][c] != 0 {
-            return k;
+            return Some(k);
         }
-        k += 1;
     }
-    k
+    None
 }
 
 // a: the matrix. i, k: two rows.
-// The matrix with the two exchanged.
-fn swap_rows(a: Grid, i: usize, k: usize) -> Grid
+// The two are exchanged.
+fn swap_rows(a: &mut Grid, i: usize, k: usize)
     requires i_lt_most_rows { i < most_rows }
     requires k_lt_most_rows { k < most_rows }
-    ensures { Exchanged a i k result }
+    ensures { Exchanged a.old i k a.new }
 {
-    let mut b = a;
-    b[i] = a[k];
-    b[k] = a[i];
-    b
+    a.swap(i, k);
 }
 
 // x: a row of numbers below p. f: a number. y: a row. c, n: columns.
-// The row x less f times the row y, in the columns from c to n.
-fn less_row(x: Row, f: u32, y: Row, p: u32, c: usize, n: usize) -> Row
-    requires each { Each p x }
+// From x, f times the row y is taken, in the columns from c to n.
+fn less_row(x: &mut Row, f: u32, y: &Row, p: u32, c: usize, n: usize)
+    requires each { Each p x.old }
     requires c_le_n { c ≤ n }
     requires n_le_width { n ≤ width }
-    ensures { RowLess p x f y c n result }
+    ensures { RowLess p x.old f y.now c n x.new }
 {
-    let mut z = x;
-    let mut j = c;
-    while j < n {
+    for j in c..n {
         let product = field::mul_mod(f, y[j], p);
-        z[j] = field::sub_mod(z[j], product, p);
-        j += 1;
+        x[j] = field::sub_mod(x[j], product, p);
     }
-    z
 }
 
 // a: the matrix, of numbers below p. v: a number. r: a row. c: a column. m, n: the numbers of rows and columns.
-// The matrix with row r taken from each row below it, as often as v times the entry in column c says.
-fn clear_below(a: Grid, p: u32, v: u32, r: usize, c: usize, m: usize, n: usize) -> Grid
-    requires below { Below p a }
+// From each row below row r, row r is taken as often as v times the entry in column c says.
+fn clear_below(a: &mut Grid, p: u32, v: u32, r: usize, c: usize, m: usize, n: usize)
+    requires below { Below p a.old }
     requires r_lt_m { r < m }
     requires m_le_most_rows { m ≤ most_rows }
     requires c_lt_n { c < n }
     requires n_le_width { n ≤ width }
-    ensures { Cleared p a v r c m n result }
+    ensures { Cleared p a.old v r c m n a.new }
 {
-    let mut b = a;
     let y = a[r];
-    let mut i = r + 1;
-    while i < m {
-        let x = b[i];
-        let f = field::mul_mod(x[c], v, p);
-        let z = less_row(x, f, y, p, c, n);
-        b[i] = z;
-        i += 1;
+    for i in r + 1..m {
+        let f = field::mul_mod(a[i][c], v, p);
+        less_row(&mut a[i], f, &y, p, c, n);
     }
-    b
 }
 
 // a: the matrix, of numbers below p. r, c: the row and the column that the step is at. k: a row from r on, not 0 in column c.
-// The matrix with row k in the place of row r, and column c cleared below it. The last row has none below it: the matrix stays, and no
-// inverse is asked for. That of 0 is never asked for, and the answer is never none.
-fn step(a: Grid, p: u32, r: usize, c: usize, k: usize, m: usize, n: usize) -> Grid
+// Row k comes to the place of row r, and column c is cleared below it. The last row has none below it: the matrix stays, and no inverse is
+// asked for. That of 0 is never asked for, and the answer is never none.
+fn step(a: &mut Grid, p: u32, r: usize, c: usize, k: usize, m: usize, n: usize)
     requires prime { Prime p }
-    requires below { Below p a }
+    requires below { Below p a.old }
     requires r_le_k { r ≤ k }
     requires k_lt_m { k < m }
     requires m_le_most_rows { m ≤ most_rows }
     requires c_lt_n { c < n }
     requires n_le_width { n ≤ width }
-    requires c_nonzero { at a k c ≢ 0 }
-    ensures { Stepped p a r c m n result }
+    requires c_nonzero { at a.old k c ≢ 0 }
+    ensures { Stepped p a.old r c m n a.new }
 {
     if r + 1 == m {
-        return a;
+        return;
     }
-    let Inverse::Of(v) = field::inverse_mod(a[k][c], p) else {
-        return a;
+    let Some(v) = field::inverse_mod(a[k][c], p) else {
+        return;
     };
-    let b = swap_rows(a, r, k);
-    clear_below(b, p, v, r, c, m, n)
+    swap_rows(a, r, k);
+    clear_below(a, p, v, r, c, m, n);
 }
 
 // a: the matrix, of numbers below p. p: a prime. m, n: the numbers of rows and columns.
@@ -127,15 +110,11 @@ pub fn dependent(a: Grid, p: u32, m: usize, n: usize) -> bool
 {
     let mut b = a;
     let mut r: usize = 0;
-    let mut c: usize = 0;
-    while c < n {
-        let k = pivot_row(b, c, r, m);
-        if k < m {
-            let d = step(b, p, r, c, k, m, n);
-            b = d;
+    for c in 0..n {
+        if let Some(k) = pivot_row(&b, c, r, m) {
+            step(&mut b, p, r, c, k, m, n);
             r += 1;
         }
-        c += 1;
     }
     r < m
 }
