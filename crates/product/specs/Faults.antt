@@ -1,16 +1,12 @@
 -- Condition 3 over the flat arrays: where P·F has a fault. Each test is that of the rules, with the coefficients of the flat arrays.
 --   flat_low_fault           some coefficient below the order is not 0
 --   flat_order_fault         the coefficient at the order differs from C
---   place_of                 the answer of a search, as the code gives it
 use Rattle.std.specs.Prelude.{◌≡◌, ◌≢◌, Bool, true, false, not, List, ℕ, eqb, get_or}
 use Rattle.std.proofs.Common.{sym, ap, ◌∙◌, eq-eqb, ne_eqb}
-use Rattle.std.specs.Prelude.{Option, None, Some}
 use Rattle.rules.specs.Conditions.{is_zero, some_below}
 use Rattle.layout.specs.Flat.{square_place}
 use Rattle.claim.specs.declared.Head.{Head}
 use Rattle.product.specs.Product.{flat_product}
-use Rattle.product.specs.declared.fault.FirstFault.{FirstFault}
-use Rattle.product.specs.declared.fault.FirstFault.TheVariants.{At, Nowhere}
 
 -- "In column j of PF every coefficient below power d_j is 0": some coefficient is not.
 abbrev pub low_test : Head → (f entries : List ℕ) → ℕ → ℕ → ℕ → Bool
@@ -23,11 +19,6 @@ flat_low_fault head f entries i j = some_below (get_or head.orders j 0) (low_tes
 unfoldable pub flat_order_fault : Head → (f entries c : List ℕ) → ℕ → ℕ → Bool
 flat_order_fault head f entries c i j =
     not (eqb (flat_product head.p entries f head.m i j (get_or head.orders j 0)).0 (get_or c (square_place i j) 0))
-
--- The answer of a search, as the code gives it.
-abbrev pub place_of : Option (ℕ × ℕ) → FirstFault
-place_of None = Nowhere
-place_of (Some at) = At at.0 at.1
 
 -- What a coefficient tells of the test.
 module _ (head : Head) (f entries : List ℕ) (i j k r : ℕ) (e : r ≡ (flat_product head.p entries f head.m i j k).0) where

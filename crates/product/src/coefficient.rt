@@ -7,10 +7,10 @@ ghost use Rattle.layout.specs.Holds.{Each, Padded};
 ghost use Rattle.product.specs.Total.{Grown, Within, Summed};
 ghost use Rattle.product.specs.Product.{Factors, dot, first_power, powers, pair_number, product_number, flat_product};
 
-use claim::Head;
+use claim::{Basis, Problem};
 use field::{CUT, Modulus};
 use layout::{
-    COLUMN_COEFFICIENTS, ENTRY_COEFFICIENTS, ORDER, SQUARE, column_place, entry_place, square_place,
+    COLUMN_COEFFICIENTS, ENTRY_COEFFICIENTS, ORDER, column_place, entry_place, square_place,
 };
 
 // A sum of products, each cut in two, so that sums of the parts fit: high · 2^40 + low.
@@ -20,20 +20,12 @@ struct Total {
     low: u64,
 }
 
-// x: a number.
-// The same number, wider.
-fn wide(x: u32) -> u64
-    ensures { result ≡ x }
-{
-    x as u64
-}
-
 // total: a sum. y, x: places in f and entries, from which one goes down and the other up. count: how far.
 // The sum with the products of the coefficients there added.
-fn add_products<'a>(
+fn add_products(
     total: Total,
-    f: &'a [u32; COLUMN_COEFFICIENTS],
-    entries: &'a [u32; ENTRY_COEFFICIENTS],
+    f: &[u32; COLUMN_COEFFICIENTS],
+    entries: &[u32; ENTRY_COEFFICIENTS],
     y: usize,
     x: usize,
     count: usize,
@@ -45,87 +37,68 @@ fn add_products<'a>(
 {
     let mut high = total.high;
     let mut low = total.low;
-    let mut t = 0;
-    while t < count {
-        let product = wide(entries[x + t]) * wide(f[y - t]);
+    for t in 0..count {
+        let product = u64::from(entries[x + t]) * u64::from(f[y - t]);
         high += product / CUT;
         low += product % CUT;
-        t += 1;
     }
     Total { high, low }
 }
 
 // k: a power, at most the largest order.
 // The first power of P's entries that goes with a coefficient of F to the power k.
+#[tactic(auto, unfolding(rules::specs::Sizes::most_order, crate::specs::Product::first_power))]
 fn first_power(k: usize) -> usize
     requires { k ≤ most_order }
     ensures { result ≡ first_power k }
 {
-    if k < ORDER { 0 } else { k + 1 - ORDER }
+    (k + 1).saturating_sub(ORDER)
 }
 
 // length: of an entry of P. k: a power, at most the largest order.
 // How many powers of the entry go with a coefficient of F to the power k.
+#[tactic(auto, unfolding(rules::specs::Sizes::most_order, rules::specs::Sizes::most_length, crate::specs::Product::first_power, crate::specs::Product::powers))]
 fn powers(length: usize, k: usize) -> usize
     requires { (length ≤ most_length) × (k ≤ most_order) }
     ensures { result ≡ powers length k }
 {
-    let first = first_power(k);
-    if length <= first {
-        0
-    } else if length <= k {
-        length - first
-    } else {
-        k + 1 - first
-    }
+    length.min(k + 1).saturating_sub(first_power(k))
 }
 
-// total: a sum. f, lengths, entries: of a claim. i, l, j: a row of P, its column and so the row of F, and a column of F. k: a power.
+// total: a sum. problem, basis: of a claim. i, l, j: a row of P, its column and so the row of F, and a column of F. k: a power.
 // The sum with the products added that the entries of P and F there give to the power k.
-fn add_entry<'a>(
+#[tactic(auto, unfolding(rules::specs::Sizes::most_rows, rules::specs::Sizes::most_order, rules::specs::Sizes::most_length, layout::specs::Flat::square_place, crate::specs::Product::first_power))]
+fn add_entry(
     total: Total,
-    f: &'a [u32; COLUMN_COEFFICIENTS],
-    lengths: &'a [usize; SQUARE],
-    entries: &'a [u32; ENTRY_COEFFICIENTS],
+    problem: &Problem,
+    basis: &Basis,
     i: usize,
     l: usize,
     j: usize,
     k: usize,
 ) -> Total
-    requires each { Each (2 ^ 31) entries.now × (Each (2 ^ 31) f.now × Padded most_rows entries.now lengths.now) }
+    requires each { Each (2 ^ 31) basis.now.entries × (Each (2 ^ 31) problem.now.f × Padded most_rows basis.now.entries basis.now.lengths) }
     requires within { Within (2 ^ 10) total.high total.low }
     requires i_lt_most_rows { (i < most_rows) × ((l < most_rows) × ((j < most_rows) × (k ≤ most_order))) }
-    ensures { Grown most_length total.high total.low (pair_number entries.now f.now i j k l) result.high result.low }
+    ensures { Grown most_length total.high total.low (pair_number basis.now.entries problem.now.f i j k l) result.high result.low }
 {
     let first = first_power(k);
-    let count = powers(lengths[square_place(i, l)], k);
+    let count = powers(basis.lengths[square_place(i, l)], k);
     let x = entry_place(i, l, first);
     let y = column_place(l, j, k - first);
-    add_products(total, f, entries, y, x, count)
+    add_products(total, &problem.f, &basis.entries, y, x, count)
 }
 
-// head, f, lengths, entries: of a claim. i, j: a row and a column. k: a power, at most the largest order.
+// problem, basis: of a claim. i, j: a row and a column. k: a power, at most the largest order.
 // The sum of the products that make the coefficient of P·F there at that power.
-fn entry_total<'a>(
-    head: Head,
-    f: &'a [u32; COLUMN_COEFFICIENTS],
-    lengths: &'a [usize; SQUARE],
-    entries: &'a [u32; ENTRY_COEFFICIENTS],
-    i: usize,
-    j: usize,
-    k: usize,
-) -> Total
-    requires each { Each (2 ^ 31) entries.now × (Each (2 ^ 31) f.now × Padded most_rows entries.now lengths.now) }
-    requires m_le_most_rows { (head.m ≤ most_rows) × ((i < most_rows) × ((j < most_rows) × (k ≤ most_order))) }
-    ensures { Summed (most_rows * most_length) (product_number entries.now f.now head.m i j k) result.high result.low }
+fn entry_total(problem: &Problem, basis: &Basis, i: usize, j: usize, k: usize) -> Total
+    requires each { Each (2 ^ 31) basis.now.entries × (Each (2 ^ 31) problem.now.f × Padded most_rows basis.now.entries basis.now.lengths) }
+    requires m_le_most_rows { (problem.now.head.m ≤ most_rows) × ((i < most_rows) × ((j < most_rows) × (k ≤ most_order))) }
+    ensures { Summed (most_rows * most_length) (product_number basis.now.entries problem.now.f problem.now.head.m i j k) result.high result.low }
 {
-    let m = head.m;
     let mut total = Total { high: 0, low: 0 };
-    let mut l = 0;
-    while l < m {
-        let next = add_entry(total, f, lengths, entries, i, l, j, k);
-        total = next;
-        l += 1;
+    for l in 0..problem.head.m {
+        total = add_entry(total, problem, basis, i, l, j, k);
     }
     total
 }
@@ -137,27 +110,25 @@ fn residue(total: Total, modulus: Modulus) -> u32
     requires within { Within (2 ^ 10) total.high total.low }
     ensures { result ≡ (total.high * cut + total.low) % modulus.p }
 {
-    let folded = total.high * wide(modulus.fold) + total.low;
-    (folded % wide(modulus.p)) as u32
+    let folded = total.high * u64::from(modulus.fold) + total.low;
+    (folded % u64::from(modulus.p)) as u32
 }
 
-// head, modulus, f, lengths, entries: of a claim. i, j: a row and a column. k: a power, at most the largest order.
+// problem, modulus, basis: of a claim. i, j: a row and a column. k: a power, at most the largest order.
 // The coefficient of P·F there at that power, modulo p.
-pub(crate) fn coefficient<'a>(
-    head: Head,
+pub(crate) fn coefficient(
+    problem: &Problem,
     modulus: Modulus,
-    f: &'a [u32; COLUMN_COEFFICIENTS],
-    lengths: &'a [usize; SQUARE],
-    entries: &'a [u32; ENTRY_COEFFICIENTS],
+    basis: &Basis,
     i: usize,
     j: usize,
     k: usize,
 ) -> u32
-    requires factors { Factors head.p entries.now lengths.now f.now }
-    requires m_le_most_rows { (head.m ≤ most_rows) × ((i < most_rows) × ((j < most_rows) × (k ≤ most_order))) }
-    requires modulus_value { modulus ≡ modulus_of head.p }
-    ensures { result ≡ (flat_product head.p entries.now f.now head.m i j k).0 }
+    requires factors { Factors problem.now.head.p basis.now.entries basis.now.lengths problem.now.f }
+    requires m_le_most_rows { (problem.now.head.m ≤ most_rows) × ((i < most_rows) × ((j < most_rows) × (k ≤ most_order))) }
+    requires modulus_value { modulus ≡ modulus_of problem.now.head.p }
+    ensures { result ≡ (flat_product problem.now.head.p basis.now.entries problem.now.f problem.now.head.m i j k).0 }
 {
-    let total = entry_total(head, f, lengths, entries, i, j, k);
+    let total = entry_total(problem, basis, i, j, k);
     residue(total, modulus)
 }

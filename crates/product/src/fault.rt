@@ -1,198 +1,105 @@
 // Document 01, condition 3: the first place, row by row and in it column by column, where P·F has a coefficient below the order that
 // is not 0, or one at the order that differs from C.
-ghost use Rattle.std.specs.Prelude.{◌≡◌, ◌<◌, ◌≤◌, get_or};
+ghost use Rattle.std.specs.Prelude.{◌≡◌, ◌<◌, ◌≤◌, ℕ, Bool, get_or};
 ghost use Rattle.rules.specs.Conditions.{first_place};
 ghost use Rattle.rules.specs.Sizes.{most_rows};
 ghost use Rattle.field.specs.Modulus.{modulus_of};
 ghost use Rattle.layout.specs.Holds.{Ordered};
 ghost use Rattle.product.specs.Product.{Factors, flat_product};
-ghost use Rattle.product.specs.Faults.{flat_low_fault, flat_order_fault, place_of};
-ghost use Rattle.product.specs.Search.{First};
+ghost use Rattle.product.specs.Faults.{flat_low_fault, flat_order_fault};
 
 use crate::coefficient::coefficient;
-use claim::Head;
+use claim::{Answer, Basis, Problem};
 use field::Modulus;
-use layout::{COLUMN_COEFFICIENTS, ENTRY_COEFFICIENTS, SQUARE, square_place};
+use layout::square_place;
 
-// The row and the column of a fault, or none.
-#[derive(Clone, Copy)]
-pub enum FirstFault {
-    At(usize, usize),
-    Nowhere,
-}
-
-// head, modulus, f, lengths, entries: of a claim. i, j: a row and a column.
+// problem, modulus, basis: of a claim. i, j: a row and a column.
 // Whether some coefficient of P·F there below the column's order is not 0.
-fn low_fault<'a>(
-    head: Head,
-    modulus: Modulus,
-    f: &'a [u32; COLUMN_COEFFICIENTS],
-    lengths: &'a [usize; SQUARE],
-    entries: &'a [u32; ENTRY_COEFFICIENTS],
-    i: usize,
-    j: usize,
-) -> bool
-    requires factors { Factors head.p entries.now lengths.now f.now }
-    requires modulus_value { (modulus ≡ modulus_of head.p) × Ordered head.orders }
-    requires m_le_most_rows { (head.m ≤ most_rows) × ((i < most_rows) × (j < most_rows)) }
-    ensures { result ≡ flat_low_fault head f.now entries.now i j }
+fn low_fault(problem: &Problem, modulus: Modulus, basis: &Basis, i: usize, j: usize) -> bool
+    requires factors { Factors problem.now.head.p basis.now.entries basis.now.lengths problem.now.f }
+    requires modulus_value { (modulus ≡ modulus_of problem.now.head.p) × Ordered problem.now.head.orders }
+    requires m_le_most_rows { (problem.now.head.m ≤ most_rows) × ((i < most_rows) × (j < most_rows)) }
+    ensures { result ≡ flat_low_fault problem.now.head problem.now.f basis.now.entries i j }
 {
-    let order = head.orders[j];
-    let mut k = 0;
-    while k < order {
-        if coefficient(head, modulus, f, lengths, entries, i, j, k) != 0 {
-            return true;
-        }
-        k += 1;
-    }
-    false
+    (0..problem.head.orders[j]).any(|k| coefficient(problem, modulus, basis, i, j, k) != 0)
 }
 
-// head, modulus, f, lengths, entries: of a claim. i, j: a row and a column.
+// problem, modulus, basis: of a claim. i, j: a row and a column.
 // The coefficient of P·F there at the column's order, modulo p: the number of C that is due, and that of the evidence.
-pub fn order_coefficient<'a>(
-    head: Head,
+pub fn order_coefficient(
+    problem: &Problem,
     modulus: Modulus,
-    f: &'a [u32; COLUMN_COEFFICIENTS],
-    lengths: &'a [usize; SQUARE],
-    entries: &'a [u32; ENTRY_COEFFICIENTS],
+    basis: &Basis,
     i: usize,
     j: usize,
 ) -> u32
-    requires factors { Factors head.p entries.now lengths.now f.now }
-    requires modulus_value { (modulus ≡ modulus_of head.p) × Ordered head.orders }
-    requires m_le_most_rows { (head.m ≤ most_rows) × ((i < most_rows) × (j < most_rows)) }
-    ensures { result ≡ (flat_product head.p entries.now f.now head.m i j (get_or head.orders j 0)).0 }
+    requires factors { Factors problem.now.head.p basis.now.entries basis.now.lengths problem.now.f }
+    requires modulus_value { (modulus ≡ modulus_of problem.now.head.p) × Ordered problem.now.head.orders }
+    requires m_le_most_rows { (problem.now.head.m ≤ most_rows) × ((i < most_rows) × (j < most_rows)) }
+    ensures { result ≡ (flat_product problem.now.head.p basis.now.entries problem.now.f problem.now.head.m i j (get_or problem.now.head.orders j 0)).0 }
 {
-    coefficient(head, modulus, f, lengths, entries, i, j, head.orders[j])
+    coefficient(problem, modulus, basis, i, j, problem.head.orders[j])
 }
 
-// head, modulus, f, lengths, entries, c: of a claim. i, j: a row and a column.
+// problem, modulus, answer: of a claim. i, j: a row and a column.
 // Whether the coefficient of P·F there at the column's order differs from C's number.
-fn order_fault<'a>(
-    head: Head,
-    modulus: Modulus,
-    f: &'a [u32; COLUMN_COEFFICIENTS],
-    lengths: &'a [usize; SQUARE],
-    entries: &'a [u32; ENTRY_COEFFICIENTS],
-    c: &'a [u32; SQUARE],
-    i: usize,
-    j: usize,
-) -> bool
-    requires factors { Factors head.p entries.now lengths.now f.now }
-    requires modulus_value { (modulus ≡ modulus_of head.p) × Ordered head.orders }
-    requires m_le_most_rows { (head.m ≤ most_rows) × ((i < most_rows) × (j < most_rows)) }
-    ensures { result ≡ flat_order_fault head f.now entries.now c.now i j }
+#[tactic(auto, unfolding(rules::specs::Sizes::most_rows, layout::specs::Flat::square_place))]
+fn order_fault(problem: &Problem, modulus: Modulus, answer: &Answer, i: usize, j: usize) -> bool
+    requires factors { Factors problem.now.head.p answer.now.basis.entries answer.now.basis.lengths problem.now.f }
+    requires modulus_value { (modulus ≡ modulus_of problem.now.head.p) × Ordered problem.now.head.orders }
+    requires m_le_most_rows { (problem.now.head.m ≤ most_rows) × ((i < most_rows) × (j < most_rows)) }
+    ensures { result ≡ flat_order_fault problem.now.head problem.now.f answer.now.basis.entries answer.now.c i j }
 {
-    let due = order_coefficient(head, modulus, f, lengths, entries, i, j);
-    let given = c[square_place(i, j)];
+    let due = order_coefficient(problem, modulus, &answer.basis, i, j);
+    let given = answer.c[square_place(i, j)];
     due != given
 }
 
-// head, modulus, f, lengths, entries: of a claim. i: a row.
-// The first column in that row with a fault below its order, or n.
-fn low_column<'a>(
-    head: Head,
-    modulus: Modulus,
-    f: &'a [u32; COLUMN_COEFFICIENTS],
-    lengths: &'a [usize; SQUARE],
-    entries: &'a [u32; ENTRY_COEFFICIENTS],
-    i: usize,
-) -> usize
-    requires factors { Factors head.p entries.now lengths.now f.now }
-    requires modulus_value { (modulus ≡ modulus_of head.p) × Ordered head.orders }
-    requires m_le_most_rows { (head.m ≤ most_rows) × ((head.n ≤ most_rows) × (i < most_rows)) }
-    ensures { First head.n (flat_low_fault head f.now entries.now i) result }
+// m, n: how many rows and columns. fault: whether the place in a row and a column has a fault.
+// "the first row that has a fault and in it the first column": no test of a place outside the m rows and the n columns counts.
+fn first_place<F: Fn(usize, usize) -> bool>(m: usize, n: usize, fault: F) -> Option<(usize, usize)>
+    requires { (i j : ℕ) → i < m → j < n → F.pre fault i j }
+    ensures { (faults : ℕ → ℕ → Bool) → ((i j : ℕ) (r : Bool) → i < m → j < n → F.post fault i j r → r ≡ faults i j) → result ≡ first_place m n faults }
 {
-    let n = head.n;
-    let mut j = 0;
-    while j < n {
-        if low_fault(head, modulus, f, lengths, entries, i, j) {
-            return j;
+    for i in 0..m {
+        let column = (0..n).find(
+            |j|
+                requires { F.pre fault i j.now }
+            { fault(i, *j) },
+        );
+        if let Some(j) = column {
+            return Some((i, j));
         }
-        j += 1;
     }
-    n
+    None
 }
 
-// head, modulus, f, lengths, entries, c: of a claim. i: a row.
-// The first column in that row with a fault at its order, or n.
-fn order_column<'a>(
-    head: Head,
-    modulus: Modulus,
-    f: &'a [u32; COLUMN_COEFFICIENTS],
-    lengths: &'a [usize; SQUARE],
-    entries: &'a [u32; ENTRY_COEFFICIENTS],
-    c: &'a [u32; SQUARE],
-    i: usize,
-) -> usize
-    requires factors { Factors head.p entries.now lengths.now f.now }
-    requires modulus_value { (modulus ≡ modulus_of head.p) × Ordered head.orders }
-    requires m_le_most_rows { (head.m ≤ most_rows) × ((head.n ≤ most_rows) × (i < most_rows)) }
-    ensures { First head.n (flat_order_fault head f.now entries.now c.now i) result }
+// problem, modulus, basis: of a claim.
+// The first place of a fault below the orders.
+pub fn first_low_fault(problem: &Problem, modulus: Modulus, basis: &Basis) -> Option<(usize, usize)>
+    requires factors { Factors problem.now.head.p basis.now.entries basis.now.lengths problem.now.f }
+    requires modulus_value { (modulus ≡ modulus_of problem.now.head.p) × Ordered problem.now.head.orders }
+    requires m_le_most_rows { (problem.now.head.m ≤ most_rows) × (problem.now.head.n ≤ most_rows) }
+    ensures { result ≡ first_place problem.now.head.m problem.now.head.n (flat_low_fault problem.now.head problem.now.f basis.now.entries) }
 {
-    let n = head.n;
-    let mut j = 0;
-    while j < n {
-        if order_fault(head, modulus, f, lengths, entries, c, i, j) {
-            return j;
-        }
-        j += 1;
-    }
-    n
+    first_place(problem.head.m, problem.head.n, |i, j| {
+        low_fault(problem, modulus, basis, i, j)
+    })
 }
 
-// head, modulus, f, lengths, entries: of a claim.
-// "the first row that has a fault and in it the first column", of the faults below the orders.
-pub fn first_low_fault<'a>(
-    head: Head,
+// problem, modulus, answer: of a claim.
+// The first place of a fault at the orders.
+pub fn first_order_fault(
+    problem: &Problem,
     modulus: Modulus,
-    f: &'a [u32; COLUMN_COEFFICIENTS],
-    lengths: &'a [usize; SQUARE],
-    entries: &'a [u32; ENTRY_COEFFICIENTS],
-) -> FirstFault
-    requires factors { Factors head.p entries.now lengths.now f.now }
-    requires modulus_value { (modulus ≡ modulus_of head.p) × Ordered head.orders }
-    requires m_le_most_rows { (head.m ≤ most_rows) × (head.n ≤ most_rows) }
-    ensures { result ≡ place_of (first_place head.m head.n (flat_low_fault head f.now entries.now)) }
+    answer: &Answer,
+) -> Option<(usize, usize)>
+    requires factors { Factors problem.now.head.p answer.now.basis.entries answer.now.basis.lengths problem.now.f }
+    requires modulus_value { (modulus ≡ modulus_of problem.now.head.p) × Ordered problem.now.head.orders }
+    requires m_le_most_rows { (problem.now.head.m ≤ most_rows) × (problem.now.head.n ≤ most_rows) }
+    ensures { result ≡ first_place problem.now.head.m problem.now.head.n (flat_order_fault problem.now.head problem.now.f answer.now.basis.entries answer.now.c) }
 {
-    let m = head.m;
-    let n = head.n;
-    let mut i = 0;
-    while i < m {
-        let j = low_column(head, modulus, f, lengths, entries, i);
-        if j < n {
-            return FirstFault::At(i, j);
-        }
-        i += 1;
-    }
-    FirstFault::Nowhere
-}
-
-// head, modulus, f, lengths, entries, c: of a claim.
-// The same of the faults at the orders.
-pub fn first_order_fault<'a>(
-    head: Head,
-    modulus: Modulus,
-    f: &'a [u32; COLUMN_COEFFICIENTS],
-    lengths: &'a [usize; SQUARE],
-    entries: &'a [u32; ENTRY_COEFFICIENTS],
-    c: &'a [u32; SQUARE],
-) -> FirstFault
-    requires factors { Factors head.p entries.now lengths.now f.now }
-    requires modulus_value { (modulus ≡ modulus_of head.p) × Ordered head.orders }
-    requires m_le_most_rows { (head.m ≤ most_rows) × (head.n ≤ most_rows) }
-    ensures { result ≡ place_of (first_place head.m head.n (flat_order_fault head f.now entries.now c.now)) }
-{
-    let m = head.m;
-    let n = head.n;
-    let mut i = 0;
-    while i < m {
-        let column = order_column(head, modulus, f, lengths, entries, c, i);
-        if column < n {
-            return FirstFault::At(i, column);
-        }
-        i += 1;
-    }
-    FirstFault::Nowhere
+    first_place(problem.head.m, problem.head.n, |i, j| {
+        order_fault(problem, modulus, answer, i, j)
+    })
 }

@@ -1,10 +1,6 @@
-use Prim.Native.Nat.{◌-◌, ◌≤◌}
 use Rattle.product.specs.Total.{Grown}
 use Rattle.product.specs.Product.{dot}
 use Rattle.product.proofs.coefficient.add_products.Given as goal
 
 abbrev pub invariant-loop-t : goal.invariant-loop-t
-invariant-loop-t l = (l.t ≤ l.count) × Grown l.t l.initial.high l.initial.low (dot l.entries l.f l.x l.y l.t) l.high l.low
-
-abbrev pub decreases-loop-t : goal.decreases-loop-t
-decreases-loop-t l = l.count - l.t
+invariant-loop-t l = Grown l.t l.initial.high l.initial.low (dot l.entries l.f l.x l.y l.t) l.high l.low

@@ -1,50 +1,30 @@
-use borrow.Author.Rules.{rules}
-use mathlib.Core.Path.{sym}
-use native.Mathlib.Nat.{le_trans, le_of_lt, lt_of_lt_of_le}
-use native.Mathlib.Omega.{arith}
-use borrow.Author.Count.{below_none, below_more}
-use lib.ListN.{get_or}
-use Rattle.rules.specs.Sizes.{most_rows, most_order}
-use Rattle.product.specs.Faults.{low_test, low_test_zero, low_test_other, flat_low_fault}
+use Rattle.std.proofs.Common.{◌≡◌, ℕ, ◌<◌, Bool, true, false, rules, arith, refl, sym, ◌∙◌, zero-add, get_or, length}
+use borrow.Author.Tests.{tests}
+use Rattle.std.proofs.lemmas.Iterator.{YieldsList-from_range, cases_from_any}
+use Rattle.std.proofs.lemmas.List.FromFn.{length-range_with_len, get_or-range_with_len}
+use Rattle.std.specs.Bool.{MatchBool}
+use Rattle.std.specs.List.{range_with_len, AllWithin, HoldsAt}
+use Rattle.rules.specs.Conditions.{some_below}
+use Rattle.product.specs.Faults.{low_test, flat_low_fault}
 use Rattle.product.specs.Search.{some_below_fails, some_below_hit}
 use Rattle.product.proofs.fault.low_fault.Goals as goal
 
-pub offset_bounds-head-j : goal.offset_bounds-head-j
-unfolding most_rows
-offset_bounds-head-j c = search rules
-
-pub bounds-head-j : goal.bounds-head-j
-unfolding most_rows
-bounds-head-j c = search rules
-
-pub loop-k-init : goal.loop-k-init
-loop-k-init c = (search rules, below_none _)
-
-pub coefficient-requires : goal.coefficient-requires
-coefficient-requires c = let rest = c.requires.m_le_most_rows in record { factors = c.requires.factors; m_le_most_rows = (rest.0, (rest.1.0, (rest.1.1, le_trans (le_of_lt c.loop-k-test.true) (c.requires.modulus_value.1 c.args.j)))); modulus_value = c.requires.modulus_value.0 }
-
-pub returns-then-coefficient-ne0 : goal.returns-then-coefficient-ne0
-unfolding flat_low_fault
-returns-then-coefficient-ne0 c =
-    let k = c.loop-k.k in
-    sym (some_below_hit (get_or c.args.head.orders c.args.j 0) (low_test c.args.head c.args.f.now c.args.entries.now c.args.i c.args.j) k
-    c.loop-k-test.true
-    (low_test_other c.args.head c.args.f.now c.args.entries.now c.args.i c.args.j k c.coefficient.result c.coefficient.ensures c.if-coefficient-ne0.true))
-
-pub overflow_add-k : goal.overflow_add-k
-unfolding most_order
-overflow_add-k c = omega (arith, c.requires.modulus_value.1 c.args.j)
-
-pub loop-k-preserved : goal.loop-k-preserved
-loop-k-preserved c = (
-  search rules,
-  below_more _ _ c.loop-k.invariant.1
-      (low_test_zero c.args.head c.args.f.now c.args.entries.now c.args.i c.args.j c.loop-k.k
-      c.coefficient.result c.coefficient.ensures c.if-coefficient-ne0.false),
-)
+-- What `any` finds in the numbers below n.
+from_any : (n : ℕ) (test : ℕ → Bool) (r : Bool)
+    → MatchBool r ((k : ℕ) × (k < length (range_with_len 0 n)) × HoldsAt (λ x. test x ≡ true) (range_with_len 0 n) k)
+    (AllWithin (λ x. test x ≡ false) (range_with_len 0 n) 0 (length (range_with_len 0 n)))
+    → r ≡ some_below n test
+from_any n test true (k, b, h) =
+    let within : k < n = omega (arith, length-range_with_len 0 n) in
+    sym (some_below_hit n test k within (rw (get_or-range_with_len 0 n k 0 within ∙ zero-add k) at (h 0)))
+from_any n test false h =
+    sym (some_below_fails n test (λ k b. rw (get_or-range_with_len 0 n k 0 b ∙ zero-add k) at (h k 0 (omega arith) (omega (arith, length-range_with_len 0 n)))))
 
 pub returns : goal.returns
 unfolding flat_low_fault
 returns c =
-    sym (some_below_fails (get_or c.args.head.orders c.args.j 0) (low_test c.args.head c.args.f.now c.args.entries.now c.args.i c.args.j)
-    (λ k b. c.loop-k.invariant.1 k (lt_of_lt_of_le b c.loop-k-test.false)))
+    let n = get_or c.args.problem.now.head.orders c.args.j 0 in
+    let test = low_test c.args.problem.now.head c.args.problem.now.f c.args.basis.now.entries c.args.i c.args.j in
+    from_any n test c.any.result
+    (cases_from_any _ _ c.any.result (λ k. test k ≡ true) (λ k. test k ≡ false) c.any.ensures.ran (YieldsList-from_range 0 n n refl (omega arith))
+    (λ x q k. search (rules, tests)) (λ x q k. search (rules, tests)))
