@@ -1,5 +1,6 @@
 -- What the code makes of the arrays of a claim is what the rules say of the claim.
 --   EveryColumn              "every column gives 0", of the claim that the arrays stand for
+--   EveryColumnIn            the same of the code's structs, whole
 --   every_column_one         … leaves one answer
 --   value_rules, zero_rules  a column's value, and what the code tries
 use Rattle.std.specs.Prelude.{◌≡◌, refl, Bool, true, false, List, ℕ, zero, suc, ◌≤◌, ◌<◌, eqb, pos, get_or, replicate}
@@ -23,6 +24,8 @@ use Rattle.rules.specs.Sizes.{most_rows, most_length}
 use Rattle.layout.specs.Flat.{square, square_place, length_at, cell_past, cells, column_cells}
 use Rattle.layout.specs.Holds.{Each}
 use Rattle.claim.specs.declared.Head.{Head}
+use Rattle.claim.specs.declared.Problem.{Problem as ProblemStruct}
+use Rattle.claim.specs.declared.Answer.{Answer as AnswerStruct}
 use Rattle.claim.specs.Claims.{problem_of, basis_of, constants_of}
 use Rattle.claim.specs.Sound.{SoundHead, SoundColumns, SoundBasis}
 use Rattle.claim.specs.Holds.{holds_orders, holds_constants}
@@ -39,6 +42,10 @@ abbrev pub EveryColumn : Head → (f entries c u : List ℕ) → ℕ → Bool �
 EveryColumn head f entries c u point r =
     (lengths : List ℕ) → SoundBasis head lengths entries
     → r ≡ every_column_zero (problem_of head f) (basis_of head.m lengths entries) (constants_of head.m head.n c) u point
+
+-- The same of the code's structs.
+abbrev pub EveryColumnIn : ProblemStruct → AnswerStruct → List ℕ → ℕ → Bool → Type 0
+EveryColumnIn b a u point r = EveryColumn b.head b.f a.basis.entries a.c u point r
 
 -- There are such lengths: all of them the largest.
 full : List ℕ

@@ -1,220 +1,168 @@
 // Document 02, L5, "Judging by a drawn point": whether a claim's product may pass, by a drawn row u and a drawn point. Source document 000,
 // section 3. No product is formed: u·P comes first, a row of m polynomials, and the values of its entries at the point up to each power. With
 // these, Horner's rule gives the value of each column of u·P·F that is cut at the order, from the highest power down.
-#![tactic(auto)]
+#![tactic(auto, unfolding(rules::specs::Sizes::most_rows, rules::specs::Sizes::most_order, rules::specs::Sizes::most_length, rules::specs::Sizes::largest_prime))]
 
-ghost use Rattle.std.specs.Prelude.{◌≡◌, max, ◌+◌, ◌-◌, ◌*◌, ◌%◌, ◌<◌, ◌≤◌, get_or, length};
-ghost use Rattle.rules.specs.Sizes.{largest_prime, most_rows, most_order, most_length};
+ghost use Rattle.std.specs.Prelude.{◌≡◌, ◌+◌, ◌-◌, ◌*◌, ◌%◌, ◌<◌, ◌≤◌, get_or};
+ghost use Rattle.rules.specs.Sizes.{most_rows, most_order, most_length};
 ghost use Rattle.layout.specs.Flat.{column_place};
 ghost use Rattle.layout.specs.Holds.{Each, Ordered};
+ghost use Rattle.claim.specs.Sound.{SoundHead};
 ghost use Rattle.drawn.specs.Sums.{FirstBelow, plus_row};
 ghost use Rattle.drawn.specs.Values.{TimesPoint, AddedPower, Table};
 ghost use Rattle.drawn.specs.Columns.{column_value};
-ghost use Rattle.drawn.specs.Asked.{Asked, Largest};
-ghost use Rattle.drawn.specs.Claims.{EveryColumn};
+ghost use Rattle.drawn.specs.Asked.{AskedIn, Largest};
+ghost use Rattle.drawn.specs.Claims.{EveryColumnIn};
 
 mod sum;
 
 use crate::sum::plus_row;
-use claim::Head;
+use claim::{Answer, Basis, Head, Problem};
 use field::{mul_mod, neg_mod};
-use layout::{
-    COLUMN_COEFFICIENTS, ENTRY_COEFFICIENTS, LENGTH, ORDER, ROWS, SQUARE, column_place, entry_place,
-};
+use layout::{LENGTH, ORDER, ROWS, SQUARE, column_place, entry_place};
 
 type Row = [u32; ROWS];
 
 // The values up to each power.
 type Values = [Row; LENGTH];
 
-// x: a number.
-// The same number, wider.
-fn wide(x: u32) -> u64
-    ensures { result ≡ x }
-{
-    x as u64
-}
-
-// row: any numbers. p: above 0.
+// head: of a claim. row: any numbers.
 // The row, each of its first m numbers times the point, modulo p.
-fn times_point(row: Row, m: usize, point: u32, p: u32) -> Row
-    requires { (0 < p) × (m ≤ most_rows) }
-    ensures { TimesPoint p m row point result }
+fn times_point(head: &Head, row: Row, point: u32) -> Row
+    requires { SoundHead head.now }
+    ensures { TimesPoint head.now.p head.now.m row point result }
 {
     let mut next = row;
-    let mut i = 0;
-    while i < m {
-        next[i] = mul_mod(row[i], point, p);
-        i += 1;
+    for i in 0..head.m {
+        next[i] = mul_mod(row[i], point, head.p);
     }
     next
 }
 
-// before: m values, below p. row: m numbers, below p. entries: of P. x: a power.
+// head, basis: of a claim. before: m values, below p. row: m numbers, below p. x: a power.
 // The values, to each of which the products of the row with a column of P at that power are added, modulo p.
-fn add_power(
-    before: Row,
-    row: Row,
-    entries: &[u32; ENTRY_COEFFICIENTS],
-    m: usize,
-    x: usize,
-    p: u32,
-) -> Row
-    requires p_nonzero { (0 < p) × ((p ≤ largest_prime) × ((m ≤ most_rows) × (x < most_length))) }
-    requires first_below { FirstBelow m p before × (FirstBelow m p row × Each p entries.now) }
-    ensures { AddedPower p m m before row entries.now x result }
+fn add_power(head: &Head, basis: &Basis, before: Row, row: Row, x: usize) -> Row
+    requires head { SoundHead head.now × (x < most_length) }
+    requires first_below { FirstBelow head.now.m head.now.p before × (FirstBelow head.now.m head.now.p row × Each head.now.p basis.now.entries) }
+    ensures { AddedPower head.now.p head.now.m head.now.m before row basis.now.entries x result }
 {
     let mut next = before;
-    let mut l = 0;
-    while l < m {
-        let start = wide(before[l]);
+    for l in 0..head.m {
+        let start = u64::from(before[l]);
         let at = entry_place(0, l, x);
-        next[l] = plus_row(start, row, m, entries, at, ROWS * LENGTH, p);
-        l += 1;
+        next[l] = plus_row(
+            start,
+            row,
+            head.m,
+            &basis.entries,
+            at,
+            ROWS * LENGTH,
+            head.p,
+        );
     }
     next
 }
 
-// No values: all 0.
-fn no_values() -> Values
-    ensures { length result ≡ most_length }
-{
-    [[0; ROWS]; LENGTH]
-}
-
-// u: its first m numbers are below p. entries: of P. count: how many powers are asked for.
+// head, basis: of a claim. u: its first m numbers are below p. count: how many powers are asked for.
 // The values at the point of the entries of u·P, up to each of the first `count` powers: for each power a row of m.
-fn values(
-    entries: &[u32; ENTRY_COEFFICIENTS],
-    u: &[u32; ROWS],
-    point: u32,
-    m: usize,
-    p: u32,
-    count: usize,
-) -> Values
-    requires p_nonzero { (0 < p) × ((p ≤ largest_prime) × ((m ≤ most_rows) × (count ≤ most_length))) }
-    requires first_below { FirstBelow m p u.now × Each p entries.now }
-    ensures { Table p m u.now entries.now point count result }
+fn values(head: &Head, basis: &Basis, u: &Row, point: u32, count: usize) -> Values
+    requires head { SoundHead head.now × (count ≤ most_length) }
+    requires first_below { FirstBelow head.now.m head.now.p u.now × Each head.now.p basis.now.entries }
+    ensures { Table head.now.p head.now.m u.now basis.now.entries point count result }
 {
-    let mut table = no_values();
+    let mut table = [[0; ROWS]; LENGTH];
     let mut row = *u;
-    let mut sums: Row = [0; ROWS];
-    let mut x = 0;
-    while x < count {
-        let next = add_power(sums, row, entries, m, x, p);
+    let mut sums = [0; ROWS];
+    for x in 0..count {
+        let next = add_power(head, basis, sums, row, x);
         table[x] = next;
         sums = next;
-        let powered = times_point(row, m, point, p);
+        let powered = times_point(head, row, point);
         row = powered;
-        x += 1;
     }
     table
 }
 
-// u: its first m numbers are below p. c: of a claim. j: a column.
+// head, c: of a claim. u: its first m numbers are below p. j: a column.
 // The negative of C's column, its rows combined by u.
-fn first_value(c: &[u32; SQUARE], u: &[u32; ROWS], m: usize, j: usize, p: u32) -> u32
-    requires p_nonzero { (0 < p) × ((p ≤ largest_prime) × ((m ≤ most_rows) × (j < most_rows))) }
-    requires first_below { FirstBelow m p u.now × Each p c.now }
-    ensures { result ≡ (p - (plus_row p m 0 u.now c.now j most_rows).0) % p }
+fn first_value(head: &Head, c: &[u32; SQUARE], u: &Row, j: usize) -> u32
+    requires head { SoundHead head.now × (j < most_rows) }
+    requires first_below { FirstBelow head.now.m head.now.p u.now × Each head.now.p c.now }
+    ensures { result ≡ (head.now.p - (plus_row head.now.p head.now.m 0 u.now c.now j most_rows).0) % head.now.p }
 {
-    neg_mod(plus_row(0, *u, m, c, j, ROWS, p), p)
+    neg_mod(plus_row(0, *u, head.m, c, j, ROWS, head.p), head.p)
 }
 
-// value: what Horner's rule has. row: m values, below p. f: of a claim. j, k: a column and a power.
+// problem: of a claim. value: what Horner's rule has. row: m values, below p. j, k: a column and a power.
 // What it has with the coefficients of F's column at that power, times the values: the next step.
-fn next_value(
-    value: u32,
-    point: u32,
-    row: Row,
-    f: &[u32; COLUMN_COEFFICIENTS],
-    m: usize,
-    j: usize,
-    k: usize,
-    p: u32,
-) -> u32
-    requires p_le_largest_prime { (p ≤ largest_prime) × ((value < p) × (point < p)) }
-    requires m_le_most_rows { (m ≤ most_rows) × ((j < most_rows) × (k < most_order)) }
-    requires first_below { FirstBelow m p row × Each p f.now }
-    ensures { result ≡ (plus_row p m (value * point) row f.now (column_place 0 j k) most_order).0 }
+fn next_value(problem: &Problem, value: u32, point: u32, row: Row, j: usize, k: usize) -> u32
+    requires head { SoundHead problem.now.head × ((value < problem.now.head.p) × (point < problem.now.head.p)) }
+    requires in_bounds { (j < most_rows) × (k < most_order) }
+    requires first_below { FirstBelow problem.now.head.m problem.now.head.p row × Each problem.now.head.p problem.now.f }
+    ensures { result
+        ≡ (plus_row problem.now.head.p problem.now.head.m (value * point) row problem.now.f (column_place 0 j k) most_order).0 }
 {
-    let start = value as u64 * point as u64;
+    let start = u64::from(value) * u64::from(point);
     let at = column_place(0, j, k);
-    plus_row(start, row, m, f, at, ORDER, p)
+    plus_row(
+        start,
+        row,
+        problem.head.m,
+        &problem.f,
+        at,
+        ORDER,
+        problem.head.p,
+    )
 }
 
-// head, f, entries, c: of a claim. u, point: the numbers drawn. table: the values of u·P up to each power. j: a column.
+// problem, answer: a claim. u, point: the numbers drawn. table: the values of u·P up to each power. j: a column.
 // The value at the point of the column of the combined rows, cut at its order, less C's there.
-fn column_value<'a>(
-    head: Head,
-    f: &'a [u32; COLUMN_COEFFICIENTS],
-    entries: &'a [u32; ENTRY_COEFFICIENTS],
-    c: &'a [u32; SQUARE],
-    u: &[u32; ROWS],
+fn column_value(
+    problem: &Problem,
+    answer: &Answer,
+    u: &Row,
     point: u32,
     table: &Values,
     j: usize,
 ) -> u32
-    requires asked { Asked head f.now entries.now c.now u.now point }
-    requires j_lt_n { j < head.n }
-    requires table { Table head.p head.m u.now entries.now point (get_or head.orders j 0 + 1) table.now }
-    ensures { result ≡ (column_value head f.now entries.now c.now u.now point j).0 }
+    requires asked { AskedIn problem.now answer.now u.now point }
+    requires j_lt_n { j < problem.now.head.n }
+    requires table { Table problem.now.head.p problem.now.head.m u.now answer.now.basis.entries point (get_or problem.now.head.orders j 0 + 1) table.now }
+    ensures { result ≡ (column_value problem.now.head problem.now.f answer.now.basis.entries answer.now.c u.now point j).0 }
 {
-    let order = head.orders[j];
-    let mut value = first_value(c, u, head.m, j, head.p);
-    let mut x = 0;
-    while x < order {
-        x += 1;
-        let row = table[x];
-        value = next_value(value, point, row, f, head.m, j, order - x, head.p);
+    let order = problem.head.orders[j];
+    let mut value = first_value(&problem.head, &answer.c, u, j);
+    for k in (0..order).rev() {
+        value = next_value(problem, value, point, table[order - k], j, k);
     }
     value
 }
 
-// The larger of two numbers.
-fn larger(a: usize, b: usize) -> usize
-    ensures { result ≡ max a b }
-{
-    if a < b { b } else { a }
-}
-
 // head: of a claim.
 // The largest order.
-fn largest_order(head: Head) -> usize
-    requires { Ordered head.orders × (head.n ≤ most_rows) }
-    ensures { Largest head.n head.orders result }
+fn largest_order(head: &Head) -> usize
+    requires { Ordered head.now.orders × (head.now.n ≤ most_rows) }
+    ensures { Largest head.now.n head.now.orders result }
 {
-    let n = head.n;
     let mut most = 0;
-    let mut j = 0;
-    while j < n {
-        most = larger(most, head.orders[j]);
-        j += 1;
+    for j in 0..head.n {
+        most = most.max(head.orders[j]);
     }
     most
 }
 
-// head, f, entries, c: of a claim. u, point: the numbers drawn.
+// problem, answer: a claim. u, point: the numbers drawn.
 // "every column gives 0"
-pub fn every_column_zero<'a>(
-    head: Head,
-    f: &'a [u32; COLUMN_COEFFICIENTS],
-    entries: &'a [u32; ENTRY_COEFFICIENTS],
-    c: &'a [u32; SQUARE],
-    u: &[u32; ROWS],
-    point: u32,
-) -> bool
-    requires { Asked head f.now entries.now c.now u.now point }
-    ensures { EveryColumn head f.now entries.now c.now u.now point result }
+pub fn every_column_zero(problem: &Problem, answer: &Answer, u: &[u32; ROWS], point: u32) -> bool
+    requires { AskedIn problem.now answer.now u.now point }
+    ensures { EveryColumnIn problem.now answer.now u.now point result }
 {
-    let n = head.n;
-    let table = values(entries, u, point, head.m, head.p, largest_order(head) + 1);
-    let mut j = 0;
-    while j < n {
-        if column_value(head, f, entries, c, u, point, &table, j) != 0 {
+    let head = &problem.head;
+    let table = values(head, &answer.basis, u, point, largest_order(head) + 1);
+    for j in 0..head.n {
+        if column_value(problem, answer, u, point, &table, j) != 0 {
             return false;
         }
-        j += 1;
     }
     true
 }

@@ -17,8 +17,8 @@ fn add_product(sum: u64, x: u32, y: u32, p: u32) -> u64
     requires x_lt_p { (x < p) × (y < p) }
     ensures { Added p sum x y result }
 {
-    let room = p as u64 * WORD;
-    let next = sum + x as u64 * y as u64;
+    let room = u64::from(p) * WORD;
+    let next = sum + u64::from(x) * u64::from(y);
     if next < room { next } else { next - room }
 }
 
@@ -28,7 +28,7 @@ fn residue(sum: u64, p: u32) -> u32
     requires { 0 < p }
     ensures { result ≡ sum % p }
 {
-    (sum % p as u64) as u32
+    (sum % u64::from(p)) as u32
 }
 
 // start: below p · 2^32. row: its first m numbers are below p. numbers: below p. at, stride: where the numbers stand that go with the
@@ -49,10 +49,8 @@ pub(crate) fn plus_row(
     ensures { result ≡ (plus_row p m start row numbers.now at stride).0 }
 {
     let mut sum = start;
-    let mut i = 0;
-    while i < m {
+    for i in 0..m {
         sum = add_product(sum, row[i], numbers[at + i * stride], p);
-        i += 1;
     }
     residue(sum, p)
 }

@@ -1,11 +1,10 @@
-use mathlib.Core.Path.{◌≡◌}
-use Prim.Native.Nat.{◌-◌, ◌≤◌, ◌<◌}
+use Rattle.std.proofs.Common.{◌≡◌, ◌<◌}
 use Rattle.algebra.specs.Residue.{red}
 use Rattle.drawn.specs.Sums.{room, plus_row}
 use Rattle.drawn.proofs.sum.plus_row.Given as goal
 
 abbrev pub invariant-loop-i : goal.invariant-loop-i
-invariant-loop-i l = (l.i ≤ l.m) × ((l.sum < room l.p) × (red l.p l.sum ≡ plus_row l.p l.i l.start l.row l.numbers l.at l.stride))
-
-abbrev pub decreases-loop-i : goal.decreases-loop-i
-decreases-loop-i l = l.m - l.i
+invariant-loop-i l = record {
+  fits : l.sum < room l.p;
+  value : red l.p l.sum ≡ plus_row l.p l.i l.start l.row l.numbers l.at l.stride;
+}
