@@ -2,9 +2,7 @@
 ghost use Rattle.std.specs.Prelude.{◌≡◌, ◌+◌, ◌*◌, ◌%◌, ◌<◌, ◌≤◌, length};
 ghost use Rattle.rules.specs.Sizes.{most_rows, largest_prime};
 ghost use Rattle.layout.specs.Holds.{Each};
-ghost use Rattle.drawn.specs.Sums.{room, FirstBelow, Added, plus_row};
-
-use layout::ROWS;
+ghost use Rattle.drawn.specs.Sums.{room, Added, plus_row};
 
 // A word of 32 bits has so many values.
 const WORD: u64 = 1 << 32;
@@ -31,26 +29,25 @@ fn residue(sum: u64, p: u32) -> u32
     (sum % u64::from(p)) as u32
 }
 
-// start: below p · 2^32. row: its first m numbers are below p. numbers: below p. at, stride: where the numbers stand that go with the
-// row's, the first at `at` and each further one `stride` behind.
+// start: below p · 2^32. row: numbers below p. numbers: below p. at, stride: where the numbers stand that go with the row's, the first at `at`
+// and each further one `stride` behind.
 // The start and the sum of the products, modulo p.
 pub(crate) fn plus_row(
     start: u64,
-    row: [u32; ROWS],
-    m: usize,
+    row: &[u32],
     numbers: &[u32],
     at: usize,
     stride: usize,
     p: u32,
 ) -> u32
     requires p_nonzero { (0 < p) × ((p ≤ largest_prime) × (start < room p)) }
-    requires m_le_most_rows { (m ≤ most_rows) × (FirstBelow m p row × Each p numbers.now) }
+    requires below { (length row.now ≤ most_rows) × (Each p row.now × Each p numbers.now) }
     requires stride_in_bounds { at + most_rows * stride < length numbers.now + stride }
-    ensures { result ≡ (plus_row p m start row numbers.now at stride).0 }
+    ensures { result ≡ (plus_row p (length row.now) start row.now numbers.now at stride).0 }
 {
     let mut sum = start;
-    for i in 0..m {
-        sum = add_product(sum, row[i], numbers[at + i * stride], p);
+    for (i, x) in row.iter().enumerate() {
+        sum = add_product(sum, *x, numbers[at + i * stride], p);
     }
     residue(sum, p)
 }

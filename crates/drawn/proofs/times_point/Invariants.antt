@@ -1,7 +1,9 @@
-use Rattle.std.proofs.Common.{◌≡◌, length}
-use Rattle.rules.specs.Sizes.{most_rows}
+use Rattle.std.proofs.Common.{ℕ, ◌≡◌, ◌≤◌, get_or}
 use Rattle.drawn.specs.Values.{TimesPoint}
 use Rattle.drawn.proofs.times_point.Given as goal
 
-abbrev pub invariant-loop-i : goal.invariant-loop-i
-invariant-loop-i l = record { long : length l.next ≡ most_rows; times : TimesPoint l.head.p l.i l.row l.point l.next }
+abbrev pub invariant-loop-x : goal.invariant-loop-x
+invariant-loop-x l = record {
+  times : TimesPoint l.p l.x-index l.fn.row l.point l.row;
+  rest : (i : ℕ) → l.x-index ≤ i → get_or l.row i 0 ≡ get_or l.fn.row i 0;
+}
