@@ -1,4 +1,4 @@
 -- Laws that several proofs cite, and that each contract leaves one result.
 pub mod Degrees
-pub mod Signed
+pub mod Larger
 pub mod Unique

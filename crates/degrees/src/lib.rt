@@ -1,24 +1,15 @@
 // Document 01, condition 1: the degrees of the rows for the shifts, which may be negative, and their sum. A row of zeros has none.
-#![tactic(auto)]
+#![tactic(auto, unfolding(rules::specs::Sizes::most_rows, rules::specs::Sizes::most_length, rules::specs::Sizes::most_shift, layout::specs::Flat::square_place))]
 
-ghost use Rattle.std.specs.Prelude.{◌≡◌, ◌+◌, ◌^◌, ◌<◌, ◌≤◌, nat_abs, ◌+ℤ◌, ◌-ℤ◌};
-ghost use Rattle.rules.specs.Conditions.{shifted_degree_of, max_z, larger, row_degree_of, degree_sum_of};
+ghost use Rattle.std.specs.Prelude.{◌≡◌, ◌+◌, ◌^◌, ◌<◌, ◌≤◌, nat_abs, ◌-ℤ◌};
+ghost use Rattle.rules.specs.Conditions.{shifted_degree_of, row_degree_of, degree_sum_of};
 ghost use Rattle.rules.specs.Verdict.{natural};
 ghost use Rattle.rules.specs.Sizes.{most_rows, most_length, most_shift};
 ghost use Rattle.layout.specs.Flat.{length_at, shift_at};
 ghost use Rattle.degrees.specs.Degrees.{Sized, entry_term};
 
 use claim::{Basis, Head};
-use layout::{SQUARE, square_place};
-
-// x and y: numbers whose sizes together are small enough.
-// Their sum.
-fn plus(x: i32, y: i32) -> i32
-    requires { nat_abs x + nat_abs y < 2 ^ 31 }
-    ensures { result ≡ x +ℤ y }
-{
-    x + y
-}
+use layout::square_place;
 
 // x and y: numbers whose sizes together are small enough.
 // Their difference, x less y.
@@ -29,34 +20,12 @@ pub fn minus(x: i32, y: i32) -> i32
     x - y
 }
 
-// x and y: any numbers.
-// The larger of the two.
-fn larger_number(x: i32, y: i32) -> i32
-    ensures { result ≡ max_z x y }
-{
-    if x <= y { y } else { x }
-}
-
-// x and y: any degrees, or none.
-// The larger of the two: none takes no part.
-fn larger_degree(x: Option<i32>, y: Option<i32>) -> Option<i32>
-    ensures { result ≡ larger x y }
-{
-    let Some(a) = x else {
-        return y;
-    };
-    let Some(b) = y else {
-        return x;
-    };
-    Some(larger_number(a, b))
-}
-
 // x: any number.
 // The number itself, or 0 where it is negative.
 pub fn not_negative(x: i32) -> u32
     ensures { result ≡ natural x }
 {
-    if x < 0 { 0 } else { x as u32 }
+    u32::try_from(x).unwrap_or(0)
 }
 
 // length: the number of coefficients of an entry. shift: its column's.
@@ -65,10 +34,8 @@ fn shifted_degree(length: usize, shift: i32) -> Option<i32>
     requires { (length ≤ most_length) × (nat_abs shift ≤ most_shift) }
     ensures { result ≡ shifted_degree_of length shift }
 {
-    if length == 0 {
-        return None; // a zero entry
-    }
-    Some(plus((length - 1) as i32, shift))
+    let degree = length.checked_sub(1)?; // a zero entry has none
+    Some(degree as i32 + shift)
 }
 
 // head, basis: of a claim. i and j: a row and a column.
@@ -90,7 +57,7 @@ pub fn row_degree(head: &Head, basis: &Basis, i: usize) -> Option<i32>
 {
     let mut most = None;
     for j in (0..head.m).rev() {
-        most = larger_degree(term(head, basis, i, j), most);
+        most = term(head, basis, i, j).max(most);
     }
     most
 }
@@ -105,8 +72,7 @@ pub fn degree_sum(head: &Head, basis: &Basis) -> Option<i32>
     let mut sum: i32 = 0;
     for i in (0..head.m).rev() {
         let row = row_degree(head, basis, i)?;
-        let excess = minus(row, head.shifts[i]);
-        sum = plus(excess, sum);
+        sum += minus(row, head.shifts[i]);
     }
     Some(sum)
 }

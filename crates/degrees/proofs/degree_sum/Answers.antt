@@ -1,4 +1,9 @@
-use Rattle.std.proofs.Common.{◌≡◌, ℕ, ℤ, ◌-◌, sym, ap, ap₂, ◌∙◌, arith, rules, w32, to_z, of_z, ◌-ℤ◌, ◌+ℤ◌, nat_abs}
+use Rattle.std.proofs.Common.{◌≡◌, ℕ, ℤ, ◌-◌, sym, ap, ap₂, ◌∙◌, arith, rules, w32, to_z, of_z, ◌-ℤ◌, ◌+ℤ◌}
+use mir.Val.{SFits}
+use lib.IntN.{+ℤ_comm}
+use Rattle.std.proofs.lemmas.Int.{to_z-of_z}
+use Rattle.algebra.specs.Integer.{nat_abs_add}
+use Rattle.degrees.specs.Signed.{mag_le}
 use Rattle.std.specs.Prelude.{Option, Some}
 use Rattle.rules.specs.Conditions.{plus, total, less}
 use Rattle.rules.specs.Sizes.{most_rows, most_length, most_shift}
@@ -16,54 +21,51 @@ returns-in_err-row c =
     c.from_residual.ensures
     ∙ sym (excess_none c.args.basis.now.lengths c.args.head.now.shifts c.args.head.now.m (c.loop-i.i - 1) (omega arith) (sym c.in_err-row.ensures))
 
-pub offset_bounds-head-i : goal.offset_bounds-head-i
-unfolding most_rows
-offset_bounds-head-i c = search rules
-
-pub bounds-head-i : goal.bounds-head-i
-unfolding most_rows
-bounds-head-i c = search rules
-
-pub minus-excess-requires : goal.minus-excess-requires
-minus-excess-requires c =
+pub minus-sum-requires : goal.minus-sum-requires
+minus-sum-requires c =
     let back : to_z w32 (of_z w32 c.in_ok-row.row) ≡ c.in_ok-row.row = search rules in
     let i = c.loop-i.i - 1 in
     rw back (difference_small c.args.basis.now.lengths c.args.head.now.shifts c.requires.sized c.args.head.now.m i i c.in_ok-row.row (sym c.in_ok-row.ensures))
 
-pub plus-sum-requires : goal.plus-sum-requires
+-- What the row adds: its degree less the shift.
+added : (c : goal.After-minus-sum) → excess c.args.basis.now.lengths c.args.head.now.shifts c.args.head.now.m (c.loop-i.i - 1) ≡ Some c.minus-sum.result
+added c =
+    let shifts = c.args.head.now.shifts in
+    let back : to_z w32 (of_z w32 c.in_ok-row.row) ≡ c.in_ok-row.row = search rules in
+    ap (λ o. less o (shift_at shifts (c.loop-i.i - 1))) (sym c.in_ok-row.ensures)
+    ∙ ap Some (sym (c.minus-sum.ensures ∙ ap₂ ◌-ℤ◌ back (shift_back c.args.basis.now.lengths shifts c.requires.sized (c.loop-i.i - 1))))
+
+-- It and the sum so far are small enough to be added.
+fits : (c : goal.After-minus-sum) → SFits w32 (to_z w32 c.loop-i.sum-bits +ℤ c.minus-sum.result)
 unfolding most_rows most_length most_shift
-plus-sum-requires c =
+fits c =
     let lengths = c.args.basis.now.lengths in
     let head = c.args.head.now in
-    let i = c.loop-i.i - 1 in
-    let back : to_z w32 (of_z w32 c.in_ok-row.row) ≡ c.in_ok-row.row = search rules in
-    let result : c.minus-excess.result ≡ c.in_ok-row.row -ℤ shift_at head.shifts i =
-    c.minus-excess.ensures ∙ ap₂ ◌-ℤ◌ back (shift_back lengths head.shifts c.requires.sized i) in
-    let result_back : to_z w32 (of_z w32 c.minus-excess.result) ≡ c.minus-excess.result = search rules in
+    let sum = to_z w32 c.loop-i.sum-bits in
     omega (
       arith,
-      ap nat_abs result_back,
-      excess_size lengths head.shifts c.requires.sized head.m i c.minus-excess.result
-          (ap (λ o. less o (shift_at head.shifts i)) (sym c.in_ok-row.ensures) ∙ ap Some (sym result)),
-      total_from_size lengths head.shifts c.requires.sized head.m c.loop-i.i (to_z w32 c.loop-i.sum-bits) (sym c.loop-i.invariant.1),
+      mag_le (sum +ℤ c.minus-sum.result),
+      nat_abs_add sum c.minus-sum.result,
+      excess_size lengths head.shifts c.requires.sized head.m (c.loop-i.i - 1) c.minus-sum.result (added c),
+      total_from_size lengths head.shifts c.requires.sized head.m c.loop-i.i sum (sym c.loop-i.invariant.1),
     )
+
+pub overflow_add-sum : goal.overflow_add-sum
+overflow_add-sum c =
+    let back : to_z w32 (of_z w32 c.minus-sum.result) ≡ c.minus-sum.result = search rules in
+    rw back (fits c)
 
 pub loop-i-preserved : goal.loop-i-preserved
 loop-i-preserved c =
-    let lengths = c.args.basis.now.lengths in
     let head = c.args.head.now in
-    let i = c.loop-i.i - 1 in
-    let back : to_z w32 (of_z w32 c.in_ok-row.row) ≡ c.in_ok-row.row = search rules in
-    let result : c.minus-excess.result ≡ c.in_ok-row.row -ℤ shift_at head.shifts i =
-    c.minus-excess.ensures ∙ ap₂ ◌-ℤ◌ back (shift_back lengths head.shifts c.requires.sized i) in
-    let added : excess lengths head.shifts head.m i ≡ Some c.minus-excess.result =
-    ap (λ o. less o (shift_at head.shifts i)) (sym c.in_ok-row.ensures) ∙ ap Some (sym result) in
-    let result_back : to_z w32 (of_z w32 c.minus-excess.result) ≡ c.minus-excess.result = search rules in
-    let sum_back : to_z w32 (of_z w32 c.plus-sum.result) ≡ c.plus-sum.result = search rules in (
+    let f = excess c.args.basis.now.lengths head.shifts head.m in
+    let sum = to_z w32 c.loop-i.sum-bits in
+    let back : to_z w32 (of_z w32 c.minus-sum.result) ≡ c.minus-sum.result = search rules in (
       search rules,
-      ap Some (sum_back ∙ c.plus-sum.ensures ∙ ap (λ z. z +ℤ to_z w32 c.loop-i.sum-bits) result_back)
-          ∙ ap₂ plus (sym added) c.loop-i.invariant.1
-          ∙ total_from_step (excess lengths head.shifts head.m) head.m c.loop-i.i (omega arith) (omega arith),
+      ap (λ z. Some (to_z w32 (of_z w32 (sum +ℤ z)))) back
+          ∙ ap Some (to_z-of_z w32 (sum +ℤ c.minus-sum.result) (fits c) ∙ +ℤ_comm sum c.minus-sum.result)
+          ∙ ap₂ plus (sym (added c)) c.loop-i.invariant.1
+          ∙ total_from_step f head.m c.loop-i.i (omega arith) (omega arith),
     )
 
 pub returns : goal.returns

@@ -1,25 +1,7 @@
-use Rattle.std.proofs.Common.{rules, ap, ap₂, ◌∙◌, get_or}
-use Rattle.rules.specs.Sizes.{most_rows}
-use Rattle.layout.specs.Flat.{square_place}
+use Rattle.std.proofs.Common.{ap, ap₂, ◌∙◌, get_or}
 use Rattle.rules.specs.Conditions.{shifted_degree_of}
 use Rattle.degrees.proofs.Degrees.{shift_back}
 use Rattle.degrees.proofs.term.Goals as goal
-
-pub offset_bounds-basis-square_place : goal.offset_bounds-basis-square_place
-unfolding most_rows square_place
-offset_bounds-basis-square_place c = search rules
-
-pub bounds-basis-square_place : goal.bounds-basis-square_place
-unfolding most_rows square_place
-bounds-basis-square_place c = search rules
-
-pub offset_bounds-head-j : goal.offset_bounds-head-j
-unfolding most_rows
-offset_bounds-head-j c = search rules
-
-pub bounds-head-j : goal.bounds-head-j
-unfolding most_rows
-bounds-head-j c = search rules
 
 pub shifted_degree-requires : goal.shifted_degree-requires
 shifted_degree-requires c = (
