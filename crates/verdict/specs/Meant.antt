@@ -1,8 +1,10 @@
 -- What a verdict of the code means in the words of document 01.
 --   refusal_of, meant        a refusal of reading, and a verdict: meant_injective
+--   meant_unread             what `?` makes of a refusal of reading
 --   four_of                  the four numbers: four_of_injective
-use Rattle.std.specs.Prelude.{◌≡◌, refl, ℕ, Result, Ok, Err}
+use Rattle.std.specs.Prelude.{◌≡◌, refl, ℕ, Result, Ok, Err, IsErrAnd}
 use Rattle.std.proofs.Common.{sym, ap, ◌∙◌}
+use Rattle.std.proofs.lemmas.Result.{err_from_is_err_and}
 use Rattle.rules.specs.Reader.{Refusal as RefusalOf}
 use Rattle.rules.specs.Verdict.{Verdict as VerdictOf, Numbers, passed, unread, not_reduced, not_monomial, below_order, at_order, low_rank}
 use Rattle.verdict.specs.declared.Refusal.{Refusal}
@@ -21,6 +23,10 @@ meant (Err NotMonomial) = not_monomial
 meant (Err (BelowOrder i j)) = below_order i j
 meant (Err (AtOrder i j)) = at_order i j
 meant (Err LowRank) = low_rank
+
+-- The fault that `?` makes of a refusal of reading.
+pub meant_unread : (v : Result ℕ Fault) {r : Refusal} → IsErrAnd v (λ e. e ≡ Unread r) → meant v ≡ unread (refusal_of r)
+meant_unread v h = let p = err_from_is_err_and v h in ap meant (p.1 ∙ ap (λ e. Err e) p.2)
 
 abbrev pub four_of : Four → Numbers
 four_of f = record { code = f.code; file = f.file; number = f.number; at = f.at }
