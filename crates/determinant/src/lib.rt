@@ -2,9 +2,9 @@
 // determinants of the squares left. It is taken over polynomials, not at points." No square is copied: the entries stay in the one flat
 // array that the caller lends, and a square is the number of its first row and the list of its columns.
 // A polynomial of the work stands in an array as `convolution` has it.
-#![tactic(auto)]
+#![tactic(auto, unfolding(rules::specs::Sizes::most_rows, rules::specs::Sizes::most_length, layout::specs::Flat::square_place, layout::specs::Flat::entry_place, polynomial::specs::Coefficients::most_power))]
 
-ghost use Rattle.std.specs.Prelude.{◌≡◌, pred, max, ◌+◌, ◌≤◌, ◌<◌};
+ghost use Rattle.std.specs.Prelude.{◌≡◌, ◌+◌, ◌≤◌, ◌<◌};
 ghost use Rattle.algebra.specs.Residue.{K};
 ghost use Rattle.algebra.proofs.Series.{Series};
 ghost use Rattle.algebra.specs.Sum.{skip};
@@ -19,9 +19,10 @@ ghost use Rattle.determinant.specs.Tops.{Tops, RowTop};
 ghost use Rattle.determinant.specs.Square.{Holds, Asked, Determinant, Without};
 ghost use Rattle.determinant.specs.Expansion.{InOrder};
 
+use claim::Basis;
 use convolution::{CAPACITY, add_product, length_of, no_coefficients, no_sums, residues, unpadded};
 use field::{Modulus, neg_mod};
-use layout::{ENTRY_COEFFICIENTS, ROWS, SQUARE, entry_place, square_place};
+use layout::{ROWS, entry_place, square_place};
 use polynomial::Polynomial;
 
 // x: a number below p. j: a column.
@@ -36,11 +37,10 @@ fn with_sign(x: u32, j: usize, p: u32) -> u32
     neg_mod(x, p)
 }
 
-// entries: the coefficients of the matrix, below p. row and column: an entry, of count coefficients. j: the number of that column in a
-// square.
+// basis: the matrix, its coefficients below p. row and column: an entry, of count coefficients. j: the number of that column in a square.
 // The entry with the sign that it has in the square's expansion, as a polynomial of the work.
 fn signed_entry(
-    entries: &[u32; ENTRY_COEFFICIENTS],
+    basis: &Basis,
     row: usize,
     column: usize,
     count: usize,
@@ -48,23 +48,23 @@ fn signed_entry(
     p: u32,
 ) -> [u32; CAPACITY]
     requires row_lt_most_rows { (row < most_rows) × ((column < most_rows) × (count ≤ most_length)) }
-    requires each { Each p entries.now }
-    ensures { SignedEntry p row column count j entries.now result }
+    requires each { Each p basis.now.entries }
+    ensures { SignedEntry p row column count j basis.now.entries result }
 {
     let mut l = no_coefficients();
     for k in 0..count {
-        l[k + 2] = with_sign(entries[entry_place(row, column, k)], j, p);
+        l[k + 2] = with_sign(basis.entries[entry_place(row, column, k)], j, p);
     }
     l
 }
 
-// lengths: how many coefficients each entry has. i and j: a row and a column.
+// basis: the matrix. i and j: a row and a column.
 // The length of that entry.
-fn entry_length(lengths: &[usize; SQUARE], i: usize, j: usize) -> usize
+fn entry_length(basis: &Basis, i: usize, j: usize) -> usize
     requires { (i < most_rows) × (j < most_rows) }
-    ensures { result ≡ length_at lengths.now i j }
+    ensures { result ≡ length_at basis.now.lengths i j }
 {
-    lengths[square_place(i, j)]
+    basis.lengths[square_place(i, j)]
 }
 
 // The k-th of the numbers other than j.
@@ -87,35 +87,33 @@ fn without(columns: &[usize; ROWS], j: usize) -> [usize; ROWS]
     left
 }
 
-// entries: the coefficients of a matrix, below p. lengths: how many each entry has. tops: for each row, a bound on the powers in a
-// determinant of the rows from there on. size and row: the square's last `size` rows of the matrix start at `row`.
-// columns: the first `size` of these are its columns.
+// basis: a matrix, its coefficients below p. tops: for each row, a bound on the powers in a determinant of the rows from there on.
+// size and row: the square's last `size` rows of the matrix start at `row`. columns: the first `size` of these are its columns.
 // The determinant of the square, each coefficient below p: of one entry, that entry; of a larger square, by its first row.
 #[cycle(determinant_expand_row)]
 fn determinant(
-    entries: &[u32; ENTRY_COEFFICIENTS],
-    lengths: &[usize; SQUARE],
+    basis: &Basis,
     tops: &[usize; ROWS],
     modulus: Modulus,
     size: usize,
     row: usize,
     columns: &[usize; ROWS],
 ) -> [u32; CAPACITY]
-    requires { Asked modulus size row entries.now lengths.now tops.now columns.now }
-    ensures { Determinant modulus.p size row entries.now tops.now columns.now result }
+    requires { Asked modulus size row basis.now.entries basis.now.lengths tops.now columns.now }
+    ensures { Determinant modulus.p size row basis.now.entries tops.now columns.now result }
 {
     if size == 1 {
         let column = columns[0];
         signed_entry(
-            entries,
+            basis,
             row,
             column,
-            entry_length(lengths, row, column),
+            entry_length(basis, row, column),
             0,
             modulus.p,
         )
     } else {
-        expand_row(entries, lengths, tops, modulus, size, row, columns)
+        expand_row(basis, tops, modulus, size, row, columns)
     }
 }
 
@@ -124,66 +122,56 @@ fn determinant(
 // long as its factors, and the sums of all products are divided by p once.
 #[cycle(determinant_expand_row)]
 fn expand_row(
-    entries: &[u32; ENTRY_COEFFICIENTS],
-    lengths: &[usize; SQUARE],
+    basis: &Basis,
     tops: &[usize; ROWS],
     modulus: Modulus,
     size: usize,
     row: usize,
     columns: &[usize; ROWS],
 ) -> [u32; CAPACITY]
-    requires asked { Asked modulus size row entries.now lengths.now tops.now columns.now }
+    requires asked { Asked modulus size row basis.now.entries basis.now.lengths tops.now columns.now }
     requires le_size { 2 ≤ size }
-    ensures { Determinant modulus.p size row entries.now tops.now columns.now result }
+    ensures { Determinant modulus.p size row basis.now.entries tops.now columns.now result }
 {
     let mut sums = no_sums();
     for j in 0..size {
         let column = columns[j];
-        let length = entry_length(lengths, row, column);
+        let length = entry_length(basis, row, column);
         if 0 < length {
             let left = without(columns, j);
-            let minor = determinant(entries, lengths, tops, modulus, size - 1, row + 1, &left);
-            let entry = signed_entry(entries, row, column, length, j, modulus.p);
+            let minor = determinant(basis, tops, modulus, size - 1, row + 1, &left);
+            let entry = signed_entry(basis, row, column, length, j, modulus.p);
             add_product(&mut sums, &entry, length, &minor, tops[row + 1], modulus);
         }
     }
     residues(&sums, tops[row], modulus.p)
 }
 
-// The larger of a power and the highest that an entry of the given length has room for.
-fn higher(top: usize, length: usize) -> usize
-    ensures { result ≡ max top (pred length) }
-{
-    if top < length { length - 1 } else { top }
-}
-
-// lengths: how many coefficients each entry has. i: a row of the m × m matrix.
+// basis: an m × m matrix. i: a row of it.
 // The highest power that an entry of the row has room for.
-fn row_top(lengths: &[usize; SQUARE], i: usize, m: usize) -> usize
+fn row_top(basis: &Basis, i: usize, m: usize) -> usize
     requires i_lt_most_rows { (i < most_rows) × (m ≤ most_rows) }
-    requires each { Each (most_length + 1) lengths.now }
-    ensures { RowTop m i lengths.now result }
+    requires each { Each (most_length + 1) basis.now.lengths }
+    ensures { RowTop m i basis.now.lengths result }
 {
     let mut top = 0;
     for j in 0..m {
-        top = higher(top, entry_length(lengths, i, j));
+        top = entry_length(basis, i, j).saturating_sub(1).max(top);
     }
     top
 }
 
-// lengths: how many coefficients each entry of the m × m matrix has.
+// basis: an m × m matrix.
 // For each row the sum of the highest powers of the rows from there on: no determinant of these rows has a higher power.
-fn row_tops(lengths: &[usize; SQUARE], m: usize) -> [usize; ROWS]
+fn row_tops(basis: &Basis, m: usize) -> [usize; ROWS]
     requires m_le_most_rows { m ≤ most_rows }
-    requires each { Each (most_length + 1) lengths.now }
-    ensures { Tops m lengths.now result }
+    requires each { Each (most_length + 1) basis.now.lengths }
+    ensures { Tops m basis.now.lengths result }
 {
     let mut tops = [0; ROWS];
-    let mut i = m;
     let mut sum = 0;
-    while 0 < i {
-        i -= 1;
-        sum += row_top(lengths, i, m);
+    for i in (0..m).rev() {
+        sum += row_top(basis, i, m);
         tops[i] = sum;
     }
     tops
@@ -200,21 +188,16 @@ fn all_columns() -> [usize; ROWS]
     columns
 }
 
-// entries: the coefficients of an m × m matrix of polynomials modulo p, each below p, an entry's coefficients followed by zeros. lengths:
-// how many coefficients each entry has. modulus: its p is from 2 to the largest prime that is allowed.
+// basis: an m × m matrix of polynomials modulo p, its coefficients below p, an entry's coefficients followed by zeros. modulus: its p is
+// from 2 to the largest prime that is allowed.
 // The determinant of the matrix.
-pub fn determinant_of(
-    entries: &[u32; ENTRY_COEFFICIENTS],
-    lengths: &[usize; SQUARE],
-    modulus: Modulus,
-    m: usize,
-) -> Polynomial
-    requires { Made modulus × Holds modulus.p m entries.now lengths.now }
-    ensures { Coefficients modulus.p (det (Series (K modulus.p)) m (cells modulus.p entries.now)) result }
+pub fn determinant_of(basis: &Basis, modulus: Modulus, m: usize) -> Polynomial
+    requires { Made modulus × Holds modulus.p m basis.now.entries basis.now.lengths }
+    ensures { Coefficients modulus.p (det (Series (K modulus.p)) m (cells modulus.p basis.now.entries)) result }
 {
-    let tops = row_tops(lengths, m);
+    let tops = row_tops(basis, m);
     let columns = all_columns();
-    let l = determinant(entries, lengths, &tops, modulus, m, 0, &columns);
+    let l = determinant(basis, &tops, modulus, m, 0, &columns);
     let length = length_of(&l, tops[0] + 1);
     unpadded(&l, length)
 }

@@ -3,7 +3,6 @@ use native.Mathlib.Omega.{arith}
 use mathlib.Core.Path.{◌≡◌, sym, ap, subst, ◌∙◌}
 use lib.ListN.{get_or, length, length-replicate}
 use Prim.Native.Nat.{ℕ, suc, ◌+◌, ◌-◌, ◌<◌}
-use Rattle.rules.specs.Sizes.{most_rows}
 use Rattle.convolution.specs.Padded.{capacity}
 use Rattle.determinant.specs.Sign.{SignedEntry}
 use Rattle.determinant.specs.Square.{Asked, Determinant, asked_suc}
@@ -16,33 +15,21 @@ determinant-returns-then-size-eq1 t c =
     let a = c.args in
     let l = c.signed_entry.result in
     let one = c.if-size-eq1.true in
-    let asked = subst (λ n. Asked a.modulus n a.row a.entries.now a.lengths.now a.tops.now a.columns.now) one c.requires in
-    let entry = subst (λ n. SignedEntry a.modulus.p a.row (get_or a.columns.now 0 0) n 0 a.entries.now l) c.entry_length.ensures c.signed_entry.ensures in
-    subst (λ n. Determinant a.modulus.p n a.row a.entries.now a.tops.now a.columns.now l) (sym one) (determinant_one asked entry)
+    let asked = subst (λ n. Asked a.modulus n a.row a.basis.now.entries a.basis.now.lengths a.tops.now a.columns.now) one c.requires in
+    let entry = subst (λ n. SignedEntry a.modulus.p a.row (get_or a.columns.now 0 0) n 0 a.basis.now.entries l) c.entry_length.ensures c.signed_entry.ensures in
+    subst (λ n. Determinant a.modulus.p n a.row a.basis.now.entries a.tops.now a.columns.now l) (sym one) (determinant_one asked entry)
 
 pub expand_row-loop-j-init : goal.expand_row-loop-j-init
 expand_row-loop-j-init t c =
     let a = c.args in
     let sums = c.no_sums-sums.ensures in
-    let start = expanded_none a.modulus.p a.row (a.size - 1) a.entries.now a.tops.now a.columns.now in (
+    let start = expanded_none a.modulus.p a.row (a.size - 1) a.basis.now.entries a.tops.now a.columns.now in (
       omega arith,
       (
         ap length sums ∙ length-replicate {A = ℕ} capacity 0,
-        subst (Expanded a.modulus.p a.row (a.size - 1) 0 a.entries.now a.tops.now a.columns.now) (sym sums) start,
+        subst (Expanded a.modulus.p a.row (a.size - 1) 0 a.basis.now.entries a.tops.now a.columns.now) (sym sums) start,
       ),
     )
-
-pub expand_row-offset_bounds-columns-j : goal.expand_row-offset_bounds-columns-j
-unfolding most_rows
-expand_row-offset_bounds-columns-j t c = omega arith
-
-pub expand_row-bounds-columns-j : goal.expand_row-bounds-columns-j
-unfolding most_rows
-expand_row-bounds-columns-j t c = omega arith
-
-pub expand_row-overflow_add-row : goal.expand_row-overflow_add-row
-unfolding most_rows
-expand_row-overflow_add-row t c = omega arith
 
 pub expand_row-determinant-minor-requires : goal.expand_row-determinant-minor-requires
 expand_row-determinant-minor-requires t c =
@@ -51,18 +38,6 @@ expand_row-determinant-minor-requires t c =
       asked_left asked {j = c.loop-j.j} c.without-left.result (omega arith) (omega (arith, c.requires.le_size)) c.without-left.ensures,
     )
 
-pub expand_row-overflow_add-row-then-length-gt0 : goal.expand_row-overflow_add-row-then-length-gt0
-unfolding most_rows
-expand_row-overflow_add-row-then-length-gt0 t c = omega arith
-
-pub expand_row-offset_bounds-tops-row : goal.expand_row-offset_bounds-tops-row
-unfolding most_rows
-expand_row-offset_bounds-tops-row t c = omega arith
-
-pub expand_row-bounds-tops-row : goal.expand_row-bounds-tops-row
-unfolding most_rows
-expand_row-bounds-tops-row t c = omega arith
-
 pub expand_row-loop-j-preserved : goal.expand_row-loop-j-preserved
 expand_row-loop-j-preserved t c =
     let loop = c.loop-j in
@@ -70,7 +45,7 @@ expand_row-loop-j-preserved t c =
     let asked = asked_suc c.requires.asked in
     let counted = c.entry_length-length.ensures in
     let again : loop.j < suc (a.size - 1) = omega arith in
-    let done = Expanded a.modulus.p a.row (a.size - 1) (loop.j + 1) a.entries.now a.tops.now a.columns.now in (
+    let done = Expanded a.modulus.p a.row (a.size - 1) (loop.j + 1) a.basis.now.entries a.tops.now a.columns.now in (
       omega arith,
       elim c.if-length-gt0.branch [
         | expand_row-then-length-gt0 w ↦
@@ -84,14 +59,6 @@ expand_row-loop-j-preserved t c =
       ],
     )
 
-pub expand_row-offset_bounds-tops-row-2 : goal.expand_row-offset_bounds-tops-row-2
-unfolding most_rows
-expand_row-offset_bounds-tops-row-2 t c = omega arith
-
-pub expand_row-bounds-tops-row-2 : goal.expand_row-bounds-tops-row-2
-unfolding most_rows
-expand_row-bounds-tops-row-2 t c = omega arith
-
 pub expand_row-returns : goal.expand_row-returns
 expand_row-returns t c =
     let loop = c.loop-j in
@@ -100,5 +67,5 @@ expand_row-returns t c =
     let l = c.residues.result in
     let size : suc (a.size - 1) ≡ a.size = omega (arith, asked.some) in
     let end : loop.j ≡ suc (a.size - 1) = omega arith in
-    let done = subst (λ j. Expanded a.modulus.p a.row (a.size - 1) j a.entries.now a.tops.now a.columns.now loop.sums) end loop.invariant.1.1 in
-    subst (λ n. Determinant a.modulus.p n a.row a.entries.now a.tops.now a.columns.now l) size (expanded_all (asked_suc asked) done c.residues.ensures)
+    let done = subst (λ j. Expanded a.modulus.p a.row (a.size - 1) j a.basis.now.entries a.tops.now a.columns.now loop.sums) end loop.invariant.1.1 in
+    subst (λ n. Determinant a.modulus.p n a.row a.basis.now.entries a.tops.now a.columns.now l) size (expanded_all (asked_suc asked) done c.residues.ensures)

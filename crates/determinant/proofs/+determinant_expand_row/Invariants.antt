@@ -15,4 +15,4 @@ decreases-expand_row l = l.size + l.size
 -- The sums hold the first j terms of the expansion.
 abbrev pub invariant-expand_row-loop-j : goal.invariant-expand_row-loop-j
 invariant-expand_row-loop-j l =
-    (l.j ≤ l.size) × ((length l.sums ≡ capacity) × Expanded l.modulus.p l.row (l.size - 1) l.j l.entries l.tops l.columns l.sums)
+    (l.j ≤ l.size) × ((length l.sums ≡ capacity) × Expanded l.modulus.p l.row (l.size - 1) l.j l.basis.entries l.tops l.columns l.sums)

@@ -9,22 +9,6 @@ pub loop-j-init : goal.loop-j-init
 unfolding most_rows
 loop-j-init c = (omega arith, (refl, λ i h. absurd (omega arith)))
 
-pub offset_bounds-columns-j : goal.offset_bounds-columns-j
-unfolding most_rows
-offset_bounds-columns-j c = omega arith
-
-pub bounds-columns-j : goal.bounds-columns-j
-unfolding most_rows
-bounds-columns-j c = omega arith
-
-pub overflow_step-j : goal.overflow_step-j
-unfolding most_rows
-overflow_step-j c = omega arith
-
-pub loop-j-smaller : goal.loop-j-smaller
-unfolding most_rows
-loop-j-smaller c = omega arith
-
 pub loop-j-preserved : goal.loop-j-preserved
 unfolding most_rows
 loop-j-preserved c =

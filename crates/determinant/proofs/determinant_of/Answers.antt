@@ -6,9 +6,8 @@ use Prim.Native.Nat.{ℕ, ◌≤◌}
 use Rattle.algebra.specs.Residue.{K}
 use Rattle.algebra.proofs.Series.{Series}
 use Rattle.algebra.specs.Det.{det}
-use Rattle.rules.specs.Sizes.{most_rows, most_length}
+use Rattle.rules.specs.Sizes.{most_rows}
 use Rattle.layout.specs.Flat.{cells}
-use Rattle.polynomial.specs.Coefficients.{most_power}
 use Rattle.convolution.specs.Padded.{StandsFor}
 use Rattle.determinant.specs.Square.{Determinant}
 use Rattle.determinant.specs.Expansion.{InOrder, asked_whole, whole_square}
@@ -30,15 +29,11 @@ whole : (p m : ℕ) (entries tops columns l : List ℕ) → m ≤ most_rows → 
 whole p m entries tops columns l few in_order stands =
     subst (λ f. StandsFor p (get_or tops 0 0) f l) (whole_square p m entries columns few in_order) stands
 
-pub overflow_add-tops : goal.overflow_add-tops
-unfolding most_power most_rows most_length
-overflow_add-tops c = omega (arith, c.row_tops-tops.ensures.high 0)
-
 pub length_of-length-requires : goal.length_of-length-requires
-length_of-length-requires c = work_zeros (c.row_tops-tops.ensures.high 0) (whole c.args.modulus.p c.args.m c.args.entries.now c.row_tops-tops.result c.all_columns-columns.result c.determinant-l.result c.requires.1.few_rows c.all_columns-columns.ensures c.determinant-l.ensures)
+length_of-length-requires c = work_zeros (c.row_tops-tops.ensures.high 0) (whole c.args.modulus.p c.args.m c.args.basis.now.entries c.row_tops-tops.result c.all_columns-columns.result c.determinant-l.result c.requires.1.few_rows c.all_columns-columns.ensures c.determinant-l.ensures)
 
 pub returns : goal.returns
 returns c =
     unpadded_coefficients (c.row_tops-tops.ensures.high 0)
-    (whole c.args.modulus.p c.args.m c.args.entries.now c.row_tops-tops.result c.all_columns-columns.result c.determinant-l.result c.requires.1.few_rows c.all_columns-columns.ensures c.determinant-l.ensures) c.length_of-length.ensures
+    (whole c.args.modulus.p c.args.m c.args.basis.now.entries c.row_tops-tops.result c.all_columns-columns.result c.determinant-l.result c.requires.1.few_rows c.all_columns-columns.ensures c.determinant-l.ensures) c.length_of-length.ensures
     c.unpadded.ensures

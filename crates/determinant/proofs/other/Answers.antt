@@ -1,12 +1,6 @@
-use native.Mathlib.Omega.{arith}
-use Rattle.rules.specs.Sizes.{most_rows}
 use mathlib.Core.Path.{sym}
 use Rattle.determinant.specs.Square.{skip_low, skip_high}
 use Rattle.determinant.proofs.other.Goals as goal
-
-pub overflow_add-result : goal.overflow_add-result
-unfolding most_rows
-overflow_add-result c = omega arith
 
 pub returns-then-k-j : goal.returns-then-k-j
 returns-then-k-j c = sym (skip_low c.args.j c.args.k c.if-k-j.true)

@@ -10,14 +10,6 @@ pub loop-j-init : goal.loop-j-init
 unfolding most_rows most_length
 loop-j-init c = (omega arith, (omega arith, λ k h. absurd (omega arith)))
 
-pub entry_length-requires : goal.entry_length-requires
-unfolding most_rows most_length
-entry_length-requires c = omega arith
-
-pub overflow_step-j : goal.overflow_step-j
-unfolding most_rows most_length
-overflow_step-j c = omega arith
-
 pub loop-j-preserved : goal.loop-j-preserved
 unfolding most_rows most_length
 loop-j-preserved c =
@@ -27,7 +19,7 @@ loop-j-preserved c =
       omega arith,
       (
         omega (arith, short),
-        below_more (λ k. pred (get_or a.lengths.now (square_place a.i k) 0) ≤ c.higher-top.result) b.j (λ k h. omega (arith, b.invariant.1.1 k h)) (omega arith),
+        below_more (λ k. pred (get_or a.basis.now.lengths (square_place a.i k) 0) ≤ c.max-top.result) b.j (λ k h. omega (arith, b.invariant.1.1 k h)) (omega arith),
       ),
     )
 

@@ -5,4 +5,4 @@ use Rattle.layout.specs.Flat.{square_place}
 use Rattle.determinant.proofs.row_top.Given as goal
 
 abbrev pub invariant-loop-j : goal.invariant-loop-j
-invariant-loop-j l = (l.j ≤ l.m) × ((l.top < most_length) × ((k : ℕ) → k < l.j → pred (get_or l.lengths (square_place l.i k) 0) ≤ l.top))
+invariant-loop-j l = (l.j ≤ l.m) × ((l.top < most_length) × ((k : ℕ) → k < l.j → pred (get_or l.basis.lengths (square_place l.i k) 0) ≤ l.top))

@@ -8,23 +8,7 @@ use Rattle.determinant.proofs.row_tops.Goals as goal
 
 pub loop-i-init : goal.loop-i-init
 unfolding most_rows most_length
-loop-i-init c = (omega arith, (refl, tops_none c.args.m c.args.lengths.now most_rows))
-
-pub row_top-sum-requires : goal.row_top-sum-requires
-unfolding most_rows most_length
-row_top-sum-requires c = record { i_lt_most_rows = (omega arith, c.requires.m_le_most_rows); each = c.requires.each }
-
-pub overflow_add-sum : goal.overflow_add-sum
-unfolding most_rows most_length
-overflow_add-sum c = omega (arith, c.row_top-sum.ensures.low, c.loop-i.invariant.1.1.low)
-
-pub offset_bounds-tops-i : goal.offset_bounds-tops-i
-unfolding most_rows most_length
-offset_bounds-tops-i c = omega arith
-
-pub bounds-tops-i : goal.bounds-tops-i
-unfolding most_rows most_length
-bounds-tops-i c = omega arith
+loop-i-init c = (omega arith, (refl, tops_none c.args.m c.args.basis.now.lengths most_rows))
 
 pub loop-i-preserved : goal.loop-i-preserved
 unfolding most_rows most_length
@@ -33,7 +17,7 @@ loop-i-preserved c =
     let a = c.args in
     let sum = b.sum + c.row_top-sum.result in
     let place : b.i ≡ suc (b.i - 1) = omega arith in
-    let from = subst (λ i. TopsFrom i a.m b.sum a.lengths.now b.tops) place b.invariant.1.1 in (
+    let from = subst (λ i. TopsFrom i a.m b.sum a.basis.now.lengths b.tops) place b.invariant.1.1 in (
       omega arith,
       (
         length-set b.tops (b.i - 1) sum ∙ b.invariant.1.0,
@@ -46,5 +30,5 @@ returns c =
     let b = c.loop-i in
     let a = c.args in
     let end : b.i ≡ 0 = omega arith in
-    let from = subst (λ i. TopsFrom i a.m b.sum a.lengths.now b.tops) end b.invariant.1.1 in
+    let from = subst (λ i. TopsFrom i a.m b.sum a.basis.now.lengths b.tops) end b.invariant.1.1 in
     tops_all c.requires.m_le_most_rows from

@@ -6,7 +6,4 @@ use Rattle.determinant.specs.Tops.{TopsFrom}
 use Rattle.determinant.proofs.row_tops.Given as goal
 
 abbrev pub invariant-loop-i : goal.invariant-loop-i
-invariant-loop-i l = (l.i ≤ l.m) × ((length l.tops ≡ most_rows) × TopsFrom l.i l.m l.sum l.lengths l.tops)
-
-abbrev pub decreases-loop-i : goal.decreases-loop-i
-decreases-loop-i l = l.i
+invariant-loop-i l = (l.i ≤ l.m) × ((length l.tops ≡ most_rows) × TopsFrom l.i l.m l.sum l.basis.lengths l.tops)

@@ -11,10 +11,6 @@ pub loop-k-init : goal.loop-k-init
 unfolding most_rows
 loop-k-init c = (omega arith, (refl, λ i h. absurd (omega arith)))
 
-pub other-requires : goal.other-requires
-unfolding most_rows
-other-requires c = omega arith
-
 pub offset_bounds-columns-other : goal.offset_bounds-columns-other
 unfolding most_rows
 offset_bounds-columns-other c = omega (arith, c.other.ensures, skip_below (most_rows - 1) c.args.j c.loop-k.k (omega arith))
@@ -22,22 +18,6 @@ offset_bounds-columns-other c = omega (arith, c.other.ensures, skip_below (most_
 pub bounds-columns-other : goal.bounds-columns-other
 unfolding most_rows
 bounds-columns-other c = omega (arith, c.other.ensures, skip_below (most_rows - 1) c.args.j c.loop-k.k (omega arith))
-
-pub offset_bounds-left-k : goal.offset_bounds-left-k
-unfolding most_rows
-offset_bounds-left-k c = omega arith
-
-pub bounds-left-k : goal.bounds-left-k
-unfolding most_rows
-bounds-left-k c = omega arith
-
-pub overflow_step-k : goal.overflow_step-k
-unfolding most_rows
-overflow_step-k c = omega arith
-
-pub loop-k-smaller : goal.loop-k-smaller
-unfolding most_rows
-loop-k-smaller c = omega arith
 
 pub loop-k-preserved : goal.loop-k-preserved
 unfolding most_rows
