@@ -1,10 +1,10 @@
 -- The row to take next, as the scan of the rows finds it.
---   degree_at, is_taken, Small, row_found    what the arrays and the answer say
---   better, better_taken, better_first, better_lower       the test of one row
+--   degree_at, is_taken, Small               what the arrays say
+--   better                   the test of one row
 --   Best, best_start, best_more, best_kept, best_next        the lowest of the first rows that were not taken
-use Rattle.std.specs.Prelude.{◌≡◌, ◌≢◌, ◌⊎◌, Bool, not, List, ℕ, ◌+◌, ◌^◌, ◌<◌, T, eqb, ltb, ℤ, pos, nat_abs, get_or}
+use Rattle.std.specs.Prelude.{◌≡◌, ◌≢◌, ◌⊎◌, Bool, not, List, ℕ, ◌+◌, ◌^◌, ◌<◌, T, ℤ, pos, nat_abs, get_or}
 use Rattle.std.proofs.Math.Path.{refl, sym, ap}
-use Rattle.std.proofs.Common.{subst, ◌∙◌, true≢false, arith, lt-ltb, le-ltb, eq-eqb, ne_eqb}
+use Rattle.std.proofs.Common.{subst, ◌∙◌, true≢false, arith}
 use Rattle.std.proofs.Math.Logic.{inl, inr}
 use Rattle.std.proofs.Math.Bool.{true, false, cond}
 use Rattle.std.proofs.lemmas.Bool.{false≢true}
@@ -22,38 +22,20 @@ use Rattle.laws.specs.RowOrder.{more_of_test, more_of_failed, test_of_more}
 abbrev pub degree_at : List ℤ → ℕ → ℤ
 degree_at degrees i = get_or degrees i (pos 0)
 
-abbrev pub is_taken : List ℕ → ℕ → Bool
-is_taken taken i = not (eqb (get_or taken i 0) 0)
+abbrev pub is_taken : List Bool → ℕ → Bool
+is_taken taken i = get_or taken i false
 
 -- No degree is too large for a sum.
 abbrev pub Small : List ℤ → Type 0
 Small degrees = (i : ℕ) → nat_abs (degree_at degrees i) < 2 ^ 30
 
--- A row, or none where it is m.
-unfoldable pub row_found : ℕ → ℕ → Option ℕ
-row_found m r = cond (ltb r m) (Some r) None
-
 -- Row i was not taken, and is lower than the best so far, if there is one.
-unfoldable pub better : (ℕ → ℤ) → (ℕ → Bool) → (m i best : ℕ) → Bool
-better degree taken m i best = cond (taken i) false (cond (eqb best m) true (lt_z (degree i) (degree best)))
+abbrev pub lower_than : (ℕ → ℤ) → ℕ → Option ℕ → Bool
+lower_than degree i None = true
+lower_than degree i (Some best) = lt_z (degree i) (degree best)
 
--- How the code makes the test.
-module _ (degree : ℕ → ℤ) (taken : List ℕ) (m i best : ℕ) where
-  pub better_taken : get_or taken i 0 ≢ 0 → better degree (is_taken taken) m i best ≡ false
-  unfolding better
-  better_taken h = ap (λ t. cond (not t) false (cond (eqb best m) true (lt_z (degree i) (degree best)))) (ne_eqb (get_or taken i 0) 0 h)
-
-  pub better_first : get_or taken i 0 ≡ 0 → best ≡ m → better degree (is_taken taken) m i best ≡ true
-  unfolding better
-  better_first h e =
-      ap (λ t. cond (not t) false (cond (eqb best m) true (lt_z (degree i) (degree best)))) (eq-eqb (get_or taken i 0) 0 h)
-      ∙ ap (λ t. cond t true (lt_z (degree i) (degree best))) (eq-eqb best m e)
-
-  pub better_lower : get_or taken i 0 ≡ 0 → best ≢ m → better degree (is_taken taken) m i best ≡ lt_z (degree i) (degree best)
-  unfolding better
-  better_lower h e =
-      ap (λ t. cond (not t) false (cond (eqb best m) true (lt_z (degree i) (degree best)))) (eq-eqb (get_or taken i 0) 0 h)
-      ∙ ap (λ t. cond t true (lt_z (degree i) (degree best))) (ne_eqb best m e)
+abbrev pub better : (ℕ → ℤ) → (ℕ → Bool) → ℕ → Option ℕ → Bool
+better degree taken i best = cond (taken i) false (lower_than degree i best)
 
 -- The tests of order.
 le_trans_test : (x y z : ℤ) → le_z x y ≡ true → le_z y z ≡ true → le_z x z ≡ true
@@ -79,9 +61,6 @@ lt_le x y e = by (le_z x y) refl
     by false h = absurd (lt_not_le x y e (le_of_failed x y h))
 
 module _ (degree : ℕ → ℤ) (taken : ℕ → Bool) (m : ℕ) where
-  not_all : (best : ℕ) → best < m → eqb best m ≡ false
-  not_all best h = ne_eqb best m (λ e. absurd (omega arith))
-
   -- Of the first i rows, best is the first of the lowest that were not taken.
   pub record Low (i best : ℕ) : Type 0 where
     pub inside : best < m
@@ -89,12 +68,13 @@ module _ (degree : ℕ → ℤ) (taken : ℕ → Bool) (m : ℕ) where
     pub least : (k : ℕ) → k < i → taken k ≡ false → le_z (degree best) (degree k) ≡ true
     pub first : (k : ℕ) → k < best → taken k ≡ false → le_z (degree k) (degree best) ≡ false
 
-  abbrev pub Best : (i best : ℕ) → Type 0
-  Best i best = ((best ≡ m) × ((k : ℕ) → k < i → taken k ≡ true)) ⊎ Low i best
+  abbrev pub Best : ℕ → Option ℕ → Type 0
+  Best i None = (k : ℕ) → k < i → taken k ≡ true
+  Best i (Some best) = Low i best
 
   -- None of no rows, …
-  pub best_start : Best 0 m
-  best_start = inl (refl, λ k h. absurd (omega arith))
+  pub best_start : Best 0 None
+  best_start k h = absurd (omega arith)
 
   lower_than_all : (i : ℕ) → i < m → taken i ≡ false
       → ((k : ℕ) → k < i → taken k ≡ false → (le_z (degree i) (degree k) ≡ true) × (le_z (degree k) (degree i) ≡ false)) → Low (i + 1) i
@@ -106,27 +86,24 @@ module _ (degree : ℕ → ℤ) (taken : ℕ → Bool) (m : ℕ) where
   }
 
   -- … row i where it is better, …
-  pub best_more : (i best : ℕ) → i < m → Best i best → better degree taken m i best ≡ true → Best (i + 1) i
-  unfolding better
-  best_more i best hi so_far e = by (taken i) refl so_far e
+  pub best_more : (i : ℕ) (best : Option ℕ) → i < m → Best i best → better degree taken i best ≡ true → Best (i + 1) (Some i)
+  best_more i best hi so_far e = by (taken i) refl best so_far e
     where
-      by : (t : Bool) → taken i ≡ t → Best i best → cond t false (cond (eqb best m) true (lt_z (degree i) (degree best))) ≡ true → Best (i + 1) i
-      by true z so_far e = absurd (false≢true e)
-      by false z (inl (end, all)) e = inr (lower_than_all i hi z (λ k h w. absurd (true≢false (sym (all k h) ∙ w))))
-      by false z (inr so_far) e =
-          let lower : lt_z (degree i) (degree best) ≡ true = sym (ap (λ t. cond t true (lt_z (degree i) (degree best))) (not_all best so_far.inside)) ∙ e in
-          inr (lower_than_all i hi z (λ k h w. (
+      by : (t : Bool) → taken i ≡ t → (best : Option ℕ) → Best i best → cond t false (lower_than degree i best) ≡ true → Low (i + 1) i
+      by true z best so_far e = absurd (false≢true e)
+      by false z None all e = lower_than_all i hi z (λ k h w. absurd (true≢false (sym (all k h) ∙ w)))
+      by false z (Some best) so_far lower =
+          lower_than_all i hi z (λ k h w. (
             le_trans_test (degree i) (degree best) (degree k) (lt_le (degree i) (degree best) lower) (so_far.least k h w),
             (false_iff _).1 (λ q. lt_not_le (degree i) (degree best) lower (le_trans_test (degree best) (degree k) (degree i) (so_far.least k h w) q)),
-          )))
+          ))
 
   -- … and the best so far where it is not.
-  pub best_kept : (i best : ℕ) → Best i best → better degree taken m i best ≡ false → Best (i + 1) best
-  unfolding better
-  best_kept i best so_far e = by (taken i) refl so_far e
+  pub best_kept : (i : ℕ) (best : Option ℕ) → Best i best → better degree taken i best ≡ false → Best (i + 1) best
+  best_kept i best so_far e = by (taken i) refl best so_far e
     where
-      one_more : taken i ≡ true ⊎ (le_z (degree best) (degree i) ≡ true) → Low i best → Low (i + 1) best
-      one_more why so_far = record {
+      one_more : (best : ℕ) → taken i ≡ true ⊎ (le_z (degree best) (degree i) ≡ true) → Low i best → Low (i + 1) best
+      one_more best why so_far = record {
         inside = so_far.inside;
         waits = so_far.waits;
         least = below_more (λ k. taken k ≡ false → le_z (degree best) (degree k) ≡ true) i so_far.least
@@ -134,24 +111,20 @@ module _ (degree : ℕ → ℤ) (taken : ℕ → Bool) (m : ℕ) where
         first = so_far.first;
       }
 
-      by : (t : Bool) → taken i ≡ t → Best i best → cond t false (cond (eqb best m) true (lt_z (degree i) (degree best))) ≡ false → Best (i + 1) best
-      by true z (inl (end, all)) e = inl (end, below_more (λ k. taken k ≡ true) i all z)
-      by true z (inr so_far) e = inr (one_more (inl z) so_far)
-      by false z (inl (end, all)) e = absurd (true≢false (sym (ap (λ t. cond t true (lt_z (degree i) (degree best))) (eq-eqb best m end)) ∙ e))
-      by false z (inr so_far) e =
-          inr (one_more (inr (lt_failed (degree i) (degree best)
-          (sym (ap (λ t. cond t true (lt_z (degree i) (degree best))) (not_all best so_far.inside)) ∙ e))) so_far)
+      by : (t : Bool) → taken i ≡ t → (best : Option ℕ) → Best i best → cond t false (lower_than degree i best) ≡ false → Best (i + 1) best
+      by true z None all e = below_more (λ k. taken k ≡ true) i all z
+      by true z (Some best) so_far e = one_more best (inl z) so_far
+      by false z None all e = absurd (true≢false e)
+      by false z (Some best) so_far e = one_more best (inr (lt_failed (degree i) (degree best) e)) so_far
 
   -- When all rows were passed it is the row to take next.
-  pub best_next : (best : ℕ) → Best m best → row_found m best ≡ next_row m degree taken
-  unfolding row_found next_row lower_left
-  best_next best (inl (end, all)) =
-      ap (λ t. cond t (Some best) None) (le-ltb best m (omega arith))
-      ∙ sym ((first_below_none m (λ i. cond (taken i) false (not (lower_left m degree taken i)))).1
+  pub best_next : (best : Option ℕ) → Best m best → best ≡ next_row m degree taken
+  unfolding next_row lower_left
+  best_next None all =
+      sym ((first_below_none m (λ i. cond (taken i) false (not (lower_left m degree taken i)))).1
       (λ i hi. ap (λ t. cond t false (not (lower_left m degree taken i))) (all i hi)))
-  best_next best (inr low) =
-      ap (λ t. cond t (Some best) None) (lt-ltb best m low.inside)
-      ∙ sym ((first_below_some m (λ i. cond (taken i) false (not (lower_left m degree taken i))) best).1 (
+  best_next (Some best) low =
+      sym ((first_below_some m (λ i. cond (taken i) false (not (lower_left m degree taken i))) best).1 (
         low.inside,
         (unless_both (taken best) (lower_left m degree taken best)).1 (low.waits, none_lower),
         λ k h. later k h (taken k) refl,

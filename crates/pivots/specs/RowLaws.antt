@@ -3,7 +3,7 @@
 --   copied_start, copied_more, less_start, less_more         a row, column by column
 --   both_less                one row of both squares
 --   cleared_start, cleared_more, cleared_passed              all rows that wait
-use Rattle.std.specs.Prelude.{◌≡◌, refl, ◌≢◌, List, ℕ, ◌+◌, ◌-◌, ◌*◌, ◌%◌, ◌<◌, length, get_or, set}
+use Rattle.std.specs.Prelude.{◌≡◌, refl, ◌≢◌, Bool, false, List, ℕ, ◌+◌, ◌-◌, ◌*◌, ◌%◌, ◌<◌, length, get_or, set}
 use Rattle.std.proofs.Common.{sym, ap, ap₂, subst, ◌∙◌, le_of_lt, arith, below_more, length-set}
 use Rattle.algebra.specs.Residue.{K, red}
 use Rattle.rules.specs.Sizes.{most_rows}
@@ -96,7 +96,7 @@ module _ (p : ℕ) where
       multiple : red p f ≡ square_of p residuals k c ⊗ red p v
       multiple = red_of_mul p (number_at residuals k c) v f ef
 
-  module _ (residuals work taken : List ℕ) (r c v : ℕ) where
+  module _ (residuals work : List ℕ) (taken : List Bool) (r c v : ℕ) where
     pub cleared_start : Full residuals → Full work → Each p residuals → Each p work → Cleared p residuals work taken r c v 0 residuals work
     cleared_start full full' x y = record {
       residuals_full = full;
@@ -111,7 +111,7 @@ module _ (p : ℕ) where
 
     module _ (k : ℕ) (residuals' work' : List ℕ) (so_far : Cleared p residuals work taken r c v k residuals' work') where
       -- Row k waits, …
-      pub cleared_more : (residuals'' work'' : List ℕ) → get_or taken k 0 ≡ 0 → get_or taken r 0 ≢ 0 → c < most_rows
+      pub cleared_more : (residuals'' work'' : List ℕ) → get_or taken k false ≡ false → get_or taken r false ≢ false → c < most_rows
           → BothLess p residuals' work' k r c v residuals'' work'' → Cleared p residuals work taken r c v (k + 1) residuals'' work''
       cleared_more residuals'' work'' waits rests hc x = record {
         residuals_full = x.residuals_full;
@@ -119,28 +119,28 @@ module _ (p : ℕ) where
         residuals_below = x.residuals_below;
         work_below = x.work_below;
         residuals_less = λ a j h hj. below_more
-            (λ a. get_or taken a 0 ≡ 0 → square_of p residuals'' a j ≡ square_of p residuals a j ⊕ ⊖ (square_of p residuals a c ⊗ red p v ⊗ square_of p residuals r j)) k
+            (λ a. get_or taken a false ≡ false → square_of p residuals'' a j ≡ square_of p residuals a j ⊕ ⊖ (square_of p residuals a c ⊗ red p v ⊗ square_of p residuals r j)) k
             (λ a h w. ap (red p) (x.residuals_stay a j hj (λ z. absurd (omega arith))) ∙ so_far.residuals_less a j h hj w)
             (λ w. x.residuals_less j hj
             ∙ ap (λ z. red p z ⊕ ⊖ (square_of p residuals' k c ⊗ red p v ⊗ square_of p residuals' r j)) (here j hj)
             ∙ ap₂ (λ y z. square_of p residuals k j ⊕ ⊖ (red p y ⊗ red p v ⊗ red p z)) (here c hc) (so_far.residuals_stay r j hj (λ z. rests))) a h;
         work_less = λ a j h hj. below_more
-            (λ a. get_or taken a 0 ≡ 0 → square_of p work'' a j ≡ square_of p work a j ⊕ ⊖ (square_of p residuals a c ⊗ red p v ⊗ square_of p work r j)) k
+            (λ a. get_or taken a false ≡ false → square_of p work'' a j ≡ square_of p work a j ⊕ ⊖ (square_of p residuals a c ⊗ red p v ⊗ square_of p work r j)) k
             (λ a h w. ap (red p) (x.work_stay a j hj (λ z. absurd (omega arith))) ∙ so_far.work_less a j h hj w)
             (λ w. x.work_less j hj
             ∙ ap (λ z. red p z ⊕ ⊖ (square_of p residuals' k c ⊗ red p v ⊗ square_of p work' r j)) (so_far.work_stay k j hj (λ z. absurd (omega arith)))
             ∙ ap₂ (λ y z. square_of p work k j ⊕ ⊖ (red p y ⊗ red p v ⊗ red p z)) (here c hc) (so_far.work_stay r j hj (λ z. rests))) a h;
         residuals_stay = λ a b hb h.
-            x.residuals_stay a b hb (λ z. h (omega arith) (ap (λ y. get_or taken y 0) z ∙ waits)) ∙ so_far.residuals_stay a b hb (λ z. h (omega arith));
+            x.residuals_stay a b hb (λ z. h (omega arith) (ap (λ y. get_or taken y false) z ∙ waits)) ∙ so_far.residuals_stay a b hb (λ z. h (omega arith));
         work_stay = λ a b hb h.
-            x.work_stay a b hb (λ z. h (omega arith) (ap (λ y. get_or taken y 0) z ∙ waits)) ∙ so_far.work_stay a b hb (λ z. h (omega arith));
+            x.work_stay a b hb (λ z. h (omega arith) (ap (λ y. get_or taken y false) z ∙ waits)) ∙ so_far.work_stay a b hb (λ z. h (omega arith));
       }
         where
           here : (j : ℕ) → j < most_rows → number_at residuals' k j ≡ number_at residuals k j
           here j hj = so_far.residuals_stay k j hj (λ z. absurd (omega arith))
 
       -- … or it does not.
-      pub cleared_passed : get_or taken k 0 ≢ 0 → Cleared p residuals work taken r c v (k + 1) residuals' work'
+      pub cleared_passed : get_or taken k false ≢ false → Cleared p residuals work taken r c v (k + 1) residuals' work'
       cleared_passed rests = record {
         residuals_full = so_far.residuals_full;
         work_full = so_far.work_full;
@@ -152,5 +152,5 @@ module _ (p : ℕ) where
         work_stay = λ a b hb h. so_far.work_stay a b hb (λ z. h (omega arith));
       }
         where
-          other : (a : ℕ) → a < k + 1 → get_or taken a 0 ≡ 0 → a < k
-          other a = below_more (λ a. get_or taken a 0 ≡ 0 → a < k) k (λ a h w. h) (λ w. absurd (rests w)) a
+          other : (a : ℕ) → a < k + 1 → get_or taken a false ≡ false → a < k
+          other a = below_more (λ a. get_or taken a false ≡ false → a < k) k (λ a h w. h) (λ w. absurd (rests w)) a

@@ -3,9 +3,9 @@
 --   square_of p l            the matrix of residues modulo p
 --   number_of_residue, square_ext      a number below p is settled by its residue, and a list by its entries
 --   Identity n l             the first n rows of the identity
---   FirstColumn l i r        the first column in which row i is not 0
+--   ZeroRow, FirstColumn     row i is 0, or column c is the first in which it is not
 --   Copied, RowLess, BothLess, Cleared       a row that was copied; a multiple of a row taken from one row, in two squares, from each that waits
-use Rattle.std.specs.Prelude.{◌≡◌, refl, ◌≢◌, List, ℕ, ◌/◌, ◌%◌, ◌≤◌, ◌<◌, length, get_or, set}
+use Rattle.std.specs.Prelude.{◌≡◌, refl, ◌≢◌, Bool, false, List, ℕ, ◌/◌, ◌%◌, ◌≤◌, ◌<◌, length, get_or, set}
 use Rattle.std.proofs.Common.{sym, ap, subst, ◌∙◌, mod-eq_of_lt, arith, get_or-set_same, get_or-set_other, ext_get_or}
 use Rattle.std.proofs.Math.Logic.{by_cases}
 use Rattle.std.proofs.Math.Decide.{ℕ_discrete}
@@ -85,11 +85,15 @@ pub record Identity (n : ℕ) (l : List ℕ) : Type 0 where
   pub diagonal : (i : ℕ) → i < n → number_at l i i ≡ 1
   pub off : (i j : ℕ) → i < most_rows → j < most_rows → i ≢ j → number_at l i j ≡ 0
 
--- Row i is 0 before column r, and not 0 there.
-pub record FirstColumn (l : List ℕ) (i r : ℕ) : Type 0 where
-  pub most : r ≤ most_rows
-  pub zeros : (j : ℕ) → j < r → number_at l i j ≡ 0
-  pub nonzero : r < most_rows → number_at l i r ≢ 0
+-- Row i is 0, …
+abbrev pub ZeroRow : List ℕ → ℕ → Type 0
+ZeroRow l i = (j : ℕ) → j < most_rows → number_at l i j ≡ 0
+
+-- … or it is 0 before column c, and not 0 there.
+pub record FirstColumn (l : List ℕ) (i c : ℕ) : Type 0 where
+  pub inside : c < most_rows
+  pub zeros : (j : ℕ) → j < c → number_at l i j ≡ 0
+  pub nonzero : number_at l i c ≢ 0
 
 -- The first n numbers of row i were copied, and the others stay.
 pub record Copied (before rows : List ℕ) (i n : ℕ) (after : List ℕ) : Type 0 where
@@ -125,14 +129,14 @@ module _ (p : ℕ) where
     pub work_stay : (a b : ℕ) → b < most_rows → a ≢ k → number_at work' a b ≡ number_at work a b
 
   -- So of each of the first m rows that wait; the others stay.
-  pub record Cleared (residuals work taken : List ℕ) (r c v m : ℕ) (residuals' work' : List ℕ) : Type 0 where
+  pub record Cleared (residuals work : List ℕ) (taken : List Bool) (r c v m : ℕ) (residuals' work' : List ℕ) : Type 0 where
     pub residuals_full : Full residuals'
     pub work_full : Full work'
     pub residuals_below : Each p residuals'
     pub work_below : Each p work'
-    pub residuals_less : (k j : ℕ) → k < m → j < most_rows → get_or taken k 0 ≡ 0
+    pub residuals_less : (k j : ℕ) → k < m → j < most_rows → get_or taken k false ≡ false
         → square_of p residuals' k j ≡ square_of p residuals k j ⊕ ⊖ (square_of p residuals k c ⊗ red p v ⊗ square_of p residuals r j)
-    pub work_less : (k j : ℕ) → k < m → j < most_rows → get_or taken k 0 ≡ 0
+    pub work_less : (k j : ℕ) → k < m → j < most_rows → get_or taken k false ≡ false
         → square_of p work' k j ≡ square_of p work k j ⊕ ⊖ (square_of p residuals k c ⊗ red p v ⊗ square_of p work r j)
-    pub residuals_stay : (a b : ℕ) → b < most_rows → (a < m → get_or taken a 0 ≢ 0) → number_at residuals' a b ≡ number_at residuals a b
-    pub work_stay : (a b : ℕ) → b < most_rows → (a < m → get_or taken a 0 ≢ 0) → number_at work' a b ≡ number_at work a b
+    pub residuals_stay : (a b : ℕ) → b < most_rows → (a < m → get_or taken a false ≢ false) → number_at residuals' a b ≡ number_at residuals a b
+    pub work_stay : (a b : ℕ) → b < most_rows → (a < m → get_or taken a false ≢ false) → number_at work' a b ≡ number_at work a b

@@ -38,17 +38,17 @@ pub record Room (p : ℕ) (moves residuals work factors : List ℕ) : Type 0 whe
   pub factors_below : Each p factors
 
 -- A number that inverts the residual of row i in column c, and the rows that wait cleared by row i with it.
-pub record Pivoted (p : ℕ) (residuals work taken : List ℕ) (i c m : ℕ) (residuals' work' : List ℕ) : Type 0 where
+pub record Pivoted (p : ℕ) (residuals work : List ℕ) (taken : List Bool) (i c m : ℕ) (residuals' work' : List ℕ) : Type 0 where
   pub v : ℕ
   pub inverse : InverseOf p (number_at residuals i c) v
   pub cleared : Cleared p residuals work taken i c v m residuals' work'
 
 module _ (p m : ℕ) (A : Matrix (K p)) where
   -- The choice c: which rows were taken, which of them are pivots, and the identity less the constants that are subtracted.
-  pub record Reflects (c : Chosen p) (taken moves residuals work factors : List ℕ) : Type 0 where
+  pub record Reflects (c : Chosen p) (taken : List Bool) (moves residuals work factors : List ℕ) : Type 0 where
     pub room : Room p moves residuals work factors
     pub taken_full : length taken ≡ most_rows
-    pub taken_is : (i : ℕ) → i < m → get_or taken i 0 ≡ once (c.taken i)
+    pub taken_is : (i : ℕ) → i < m → get_or taken i false ≡ c.taken i
     pub moves_is : (i : ℕ) → get_or moves i 0 ≡ once (c.pivot i)
     pub pivots_inside : (q : ℕ) → m ≤ q → c.pivot q ≡ false
     pub factors_is : (i q : ℕ) → i < most_rows → q < most_rows → square_of p factors i q ≡ less (K p) c.multipliers i q
@@ -56,9 +56,9 @@ module _ (p m : ℕ) (A : Matrix (K p)) where
     pub reduced : Reduced p m most_rows A c.taken c.pivot column (square_of p residuals) (square_of p work)
 
 -- Row i is taken, and stands in `taken` already.
-abbrev pub Takes : (p m i : ℕ) → (taken moves residuals work factors moves' residuals' work' factors' : List ℕ) → Type 0
+abbrev pub Takes : (p m i : ℕ) → (taken : List Bool) → (moves residuals work factors moves' residuals' work' factors' : List ℕ) → Type 0
 Takes p m i taken moves residuals work factors moves' residuals' work' factors' =
-    (A : Matrix (K p)) (c : Chosen p) (before : List ℕ) → taken ≡ set before i 1 → c.taken i ≡ false
+    (A : Matrix (K p)) (c : Chosen p) (before : List Bool) → taken ≡ set before i true → c.taken i ≡ false
     → Reflects p m A c before moves residuals work factors → Reflects p m A (take_row p m most_rows all A i c) taken moves' residuals' work' factors'
 
 -- What the arrays say of the whole choice.
@@ -91,8 +91,8 @@ module _ (p : ℕ) (prime : Prime p) (m : ℕ) (rows : m ≤ most_rows) (A : Mat
   ]
 
   -- Before any row is taken.
-  pub reflects_start : (taken moves residuals work factors : List ℕ) → length taken ≡ most_rows → length moves ≡ most_rows
-      → ((i : ℕ) → get_or taken i 0 ≡ 0) → ((i : ℕ) → get_or moves i 0 ≡ 0)
+  pub reflects_start : (taken : List Bool) (moves residuals work factors : List ℕ) → length taken ≡ most_rows → length moves ≡ most_rows
+      → ((i : ℕ) → get_or taken i false ≡ false) → ((i : ℕ) → get_or moves i 0 ≡ 0)
       → Full residuals → Each p residuals → ((i j : ℕ) → i < m → j < most_rows → square_of p residuals i j ≡ A i j)
       → Identity most_rows work → Identity most_rows factors → Reflects p m A (none_taken p) taken moves residuals work factors
   unfolding less
@@ -118,14 +118,18 @@ module _ (p : ℕ) (prime : Prime p) (m : ℕ) (rows : m ≤ most_rows) (A : Mat
         (λ k q hk hq. identity_is work hw k q (lt_of_lt_of_le hk rows) hq) rows;
   }
 
-  -- A store of 1 at i, where a function is replaced by true.
-  marked : (l : List ℕ) (f : ℕ → Bool) (i a : ℕ) → i < length l → get_or l a 0 ≡ once (f a) → get_or (set l i 1) a 0 ≡ once (replace i true f a)
-  marked l f i a inside e = elim (ℕ_discrete a i) [
-    | yes z ↦ ap (λ a. get_or (set l i 1) a 0) z ∙ get_or-set_same l i 1 0 inside ∙ sym (ap once (ap (replace i true f) z ∙ replace_at i true f))
-    | no ne ↦ get_or-set_other l i a 1 0 ne ∙ e ∙ sym (ap once (replace_other i true f a ne))
+  -- A store at i of what stands for true, where a function is replaced by true.
+  marked : {A : Type 0} (of : Bool → A) (d : A) (l : List A) (f : ℕ → Bool) (i a : ℕ) → i < length l → get_or l a d ≡ of (f a)
+      → get_or (set l i (of true)) a d ≡ of (replace i true f a)
+  marked of d l f i a inside e = elim (ℕ_discrete a i) [
+    | yes z ↦
+        ap (λ a. get_or (set l i (of true)) a d) z
+        ∙ get_or-set_same l i (of true) d inside
+        ∙ sym (ap of (ap (replace i true f) z ∙ replace_at i true f))
+    | no ne ↦ get_or-set_other l i a (of true) d ne ∙ e ∙ sym (ap of (replace_other i true f a ne))
   ]
 
-  module _ (c : Chosen p) (taken moves residuals work factors : List ℕ) (h : Reflects p m A c taken moves residuals work factors)
+  module _ (c : Chosen p) (taken : List Bool) (moves residuals work factors : List ℕ) (h : Reflects p m A c taken moves residuals work factors)
       (i : ℕ) (hi : i < m) (waits : c.taken i ≡ false) where
     inside : i < most_rows
     inside = lt_of_lt_of_le hi rows
@@ -149,7 +153,7 @@ module _ (p : ℕ) (prime : Prime p) (m : ℕ) (rows : m ≤ most_rows) (A : Mat
 
     -- Row i was cleared to zero: its combination is copied.
     pub reflects_combined : (factors' : List ℕ) → ((j : ℕ) → j < most_rows → number_at residuals i j ≡ 0) → Copied factors work i most_rows factors'
-        → Reflects p m A (take_row p m most_rows all A i c) (set taken i 1) moves residuals work factors'
+        → Reflects p m A (take_row p m most_rows all A i c) (set taken i true) moves residuals work factors'
     unfolding take_row less
     reflects_combined factors' zeros copied = by (find_constants p m test) refl
       where
@@ -175,7 +179,7 @@ module _ (p : ℕ) (prime : Prime p) (m : ℕ) (rows : m ≤ most_rows) (A : Mat
         by : (o : Option (Row (K p))) → find_constants p m test ≡ o → Reflects p m A (elim o [
           | Some u ↦ record { taken = replace i true c.taken; pivot = c.pivot; multipliers = replace i u c.multipliers }
           | None ↦ record { taken = replace i true c.taken; pivot = replace i true c.pivot; multipliers = c.multipliers }
-        ]) (set taken i 1) moves residuals work factors'
+        ]) (set taken i true) moves residuals work factors'
         by None e = absurd ((false_iff _).0
             (find_constants_none p positive m test (depends_local p m most_rows all A c.pivot i) e (λ q. unit (K p) i q ⊕ ⊖ square_of p work i q))
             ((depends_iff p m most_rows all A c.pivot i (λ q. unit (K p) i q ⊕ ⊖ square_of p work i q)).1 found))
@@ -189,8 +193,8 @@ module _ (p : ℕ) (prime : Prime p) (m : ℕ) (rows : m ≤ most_rows) (A : Mat
             work_below = h.room.work_below;
             factors_below = copied.below p h.room.factors_below h.room.work_below;
           };
-          taken_full = length-set taken i 1 ∙ h.taken_full;
-          taken_is = λ a ha. marked taken c.taken i a (subst (λ n. i < n) (sym h.taken_full) inside) (h.taken_is a ha);
+          taken_full = length-set taken i true ∙ h.taken_full;
+          taken_is = λ a ha. marked (λ t. t) false taken c.taken i a (subst (λ n. i < n) (sym h.taken_full) inside) (h.taken_is a ha);
           moves_is = h.moves_is;
           pivots_inside = h.pivots_inside;
           factors_is = now_factors u e;
@@ -200,8 +204,8 @@ module _ (p : ℕ) (prime : Prime p) (m : ℕ) (rows : m ≤ most_rows) (A : Mat
 
     -- Row i is a pivot, by its residual in column k: the rows that wait are cleared.
     pub reflects_pivot : (k : ℕ) (residuals' work' : List ℕ) → k < most_rows → number_at residuals i k ≢ 0
-        → Pivoted p residuals work (set taken i 1) i k m residuals' work'
-        → Reflects p m A (take_row p m most_rows all A i c) (set taken i 1) (set moves i 1) residuals' work' factors
+        → Pivoted p residuals work (set taken i true) i k m residuals' work'
+        → Reflects p m A (take_row p m most_rows all A i c) (set taken i true) (set moves i 1) residuals' work' factors
     unfolding take_row
     reflects_pivot k residuals' work' hk nonzero x = by (find_constants p m test) refl
       where
@@ -209,8 +213,8 @@ module _ (p : ℕ) (prime : Prime p) (m : ℕ) (rows : m ≤ most_rows) (A : Mat
         residual_nonzero z =
             nonzero (sym (mod-eq_of_lt (h.room.residuals_below _)) ∙ (red_zero_iff p positive (number_at residuals i k)).0 z)
 
-        now_taken : (a : ℕ) → a < m → get_or (set taken i 1) a 0 ≡ once (replace i true c.taken a)
-        now_taken a ha = marked taken c.taken i a (subst (λ n. i < n) (sym h.taken_full) inside) (h.taken_is a ha)
+        now_taken : (a : ℕ) → a < m → get_or (set taken i true) a false ≡ replace i true c.taken a
+        now_taken a ha = marked (λ t. t) false taken c.taken i a (subst (λ n. i < n) (sym h.taken_full) inside) (h.taken_is a ha)
 
         now_reduced : Reduced p m most_rows A (replace i true c.taken) (replace i true c.pivot) (replace i k h.column)
             (square_of p residuals') (square_of p work')
@@ -218,13 +222,13 @@ module _ (p : ℕ) (prime : Prime p) (m : ℕ) (rows : m ≤ most_rows) (A : Mat
             reduced_pivot p m most_rows A c.taken c.pivot h.column (square_of p residuals) (square_of p work) h.reduced rows i hi waits k hk
             (red p x.v) (red_of_inverse p prime (number_at residuals i k) x.v x.inverse) residual_nonzero (K_cancels p prime)
             (square_of p residuals') (square_of p work')
-            (λ a j ha hj w. x.cleared.residuals_less a j ha hj (now_taken a ha ∙ ap once w))
-            (λ a q ha hq w. x.cleared.work_less a q ha hq (now_taken a ha ∙ ap once w))
+            (λ a j ha hj w. x.cleared.residuals_less a j ha hj (now_taken a ha ∙ w))
+            (λ a q ha hq w. x.cleared.work_less a q ha hq (now_taken a ha ∙ w))
 
         by : (o : Option (Row (K p))) → find_constants p m test ≡ o → Reflects p m A (elim o [
           | Some u ↦ record { taken = replace i true c.taken; pivot = c.pivot; multipliers = replace i u c.multipliers }
           | None ↦ record { taken = replace i true c.taken; pivot = replace i true c.pivot; multipliers = c.multipliers }
-        ]) (set taken i 1) (set moves i 1) residuals' work' factors
+        ]) (set taken i true) (set moves i 1) residuals' work' factors
         by (Some u) e = absurd (residual_nonzero
             ((combination_is p m most_rows A c.taken c.pivot h.column (square_of p residuals) (square_of p work) h.reduced rows i hi waits u
             ((depends_iff p m most_rows all A c.pivot i u).0 (find_constants_found p m test u e))).1 k hk))
@@ -238,9 +242,9 @@ module _ (p : ℕ) (prime : Prime p) (m : ℕ) (rows : m ≤ most_rows) (A : Mat
             work_below = x.cleared.work_below;
             factors_below = h.room.factors_below;
           };
-          taken_full = length-set taken i 1 ∙ h.taken_full;
+          taken_full = length-set taken i true ∙ h.taken_full;
           taken_is = now_taken;
-          moves_is = λ a. marked moves c.pivot i a (subst (λ n. i < n) (sym h.room.moves_full) inside) (h.moves_is a);
+          moves_is = λ a. marked once 0 moves c.pivot i a (subst (λ n. i < n) (sym h.room.moves_full) inside) (h.moves_is a);
           pivots_inside = λ q hq. replace_other i true c.pivot q (λ z. absurd (omega arith)) ∙ h.pivots_inside q hq;
           factors_is = h.factors_is;
           column = replace i k h.column;

@@ -1,38 +1,47 @@
 // Small squares modulo p, row by row in flat arrays, and the steps by which rows are cleared.
-ghost use Rattle.std.specs.Prelude.{◌≡◌, ◌≢◌, ◌≤◌, ◌<◌, get_or};
+#![tactic(auto, unfolding(rules::specs::Sizes::most_rows, layout::specs::Flat::square_place))]
+
+ghost use Rattle.std.specs.Prelude.{◌≡◌, ◌≢◌, ◌≤◌, ◌<◌, false, get_or, MatchOption};
 ghost use Rattle.rules.specs.Sizes.{most_rows};
 ghost use Rattle.layout.specs.Holds.{Each};
-ghost use Rattle.pivots.specs.Rows.{Full, Identity, FirstColumn, Copied, RowLess, BothLess, Cleared};
+ghost use Rattle.pivots.specs.Rows.{Full, Identity, ZeroRow, FirstColumn, Copied, RowLess, BothLess, Cleared};
 
 use layout::{ROWS, SQUARE, square_place};
+
+// The rows that wait, eliminated, and the constants by which each was combined: squares of numbers below p.
+#[derive(Clone, Copy)]
+pub(crate) struct Work {
+    pub(crate) residuals: [u32; SQUARE],
+    pub(crate) constants: [u32; SQUARE],
+}
+
+// A row that is taken from others, the column in which they become 0, and the inverse of its residual there.
+#[derive(Clone, Copy)]
+pub(crate) struct Pivot {
+    pub(crate) row: usize,
+    pub(crate) column: usize,
+    pub(crate) inverse: u32,
+}
 
 // The identity.
 pub(crate) fn identity() -> [u32; SQUARE]
     ensures { Identity most_rows result }
 {
     let mut rows = [0; SQUARE];
-    let mut i = 0;
-    while i < ROWS {
+    for i in 0..ROWS {
         rows[square_place(i, i)] = 1;
-        i += 1;
     }
     rows
 }
 
 // rows: a square. i: a row.
-// The first column in which row i is not 0, or the number of columns where it is 0.
-pub(crate) fn first_column(rows: &[u32; SQUARE], i: usize) -> usize
+// The first column in which row i is not 0, or none where it is 0.
+pub(crate) fn first_column(rows: &[u32; SQUARE], i: usize) -> Option<usize>
     requires { i < most_rows }
-    ensures { FirstColumn rows.now i result }
+    ensures { MatchOption result (ZeroRow rows.now i) (FirstColumn rows.now i) }
 {
-    let mut j = 0;
-    while j < ROWS {
-        if rows[square_place(i, j)] != 0 {
-            return j;
-        }
-        j += 1;
-    }
-    j
+    let start = square_place(i, 0);
+    rows[start..start + ROWS].iter().position(|x| *x != 0)
 }
 
 // out, rows: squares. i: a row.
@@ -42,12 +51,9 @@ pub(crate) fn copy_row(out: &mut [u32; SQUARE], rows: &[u32; SQUARE], i: usize)
     requires i_lt_most_rows { i < most_rows }
     ensures { Copied out.old rows.now i most_rows out.new }
 {
-    let mut j = 0;
-    while j < ROWS {
-        let place = square_place(i, j);
-        out[place] = rows[place];
-        j += 1;
-    }
+    let start = square_place(i, 0);
+    let end = start + ROWS;
+    out[start..end].copy_from_slice(&rows[start..end]);
 }
 
 // rows: a square of numbers below p. i, r: two rows. f: a number.
@@ -57,59 +63,44 @@ fn less_row(rows: &mut [u32; SQUARE], i: usize, f: u32, r: usize, p: u32)
     requires i_lt_most_rows { (i < most_rows) × (r < most_rows) }
     ensures { RowLess p rows.old i f r most_rows rows.new }
 {
-    let mut j = 0;
-    while j < ROWS {
+    for j in 0..ROWS {
         let place = square_place(i, j);
         let product = field::mul_mod(f, rows[square_place(r, j)], p);
         rows[place] = field::sub_mod(rows[place], product, p);
-        j += 1;
     }
 }
 
-// residuals, work: squares of numbers below p. k, r: two rows. c: a column. v: a number.
-// Takes row r from row k of both, as often as v times the residual of row k in column c says.
-fn less_both(
-    residuals: &mut [u32; SQUARE],
-    work: &mut [u32; SQUARE],
-    k: usize,
-    r: usize,
-    c: usize,
-    v: u32,
-    p: u32,
-)
-    requires full { Full residuals.old × Full work.old }
-    requires each { Each p residuals.old × Each p work.old }
-    requires k_lt_most_rows { (k < most_rows) × ((r < most_rows) × (c < most_rows)) }
-    ensures { BothLess p residuals.old work.old k r c v residuals.new work.new }
-{
-    let f = field::mul_mod(residuals[square_place(k, c)], v, p);
-    less_row(residuals, k, f, r, p);
-    less_row(work, k, f, r, p);
-}
+impl Work {
+    // k: a row. pivot: a row, a column and a number.
+    // Takes the pivot's row from row k, as often as the number times the residual of row k in the column says.
+    fn clear_row(&mut self, k: usize, pivot: &Pivot, p: u32)
+        requires full { Full self.old.residuals × Full self.old.constants }
+        requires each { Each p self.old.residuals × Each p self.old.constants }
+        requires k_lt_most_rows { (k < most_rows) × ((pivot.now.row < most_rows) × (pivot.now.column < most_rows)) }
+        ensures { BothLess p self.old.residuals self.old.constants k pivot.now.row pivot.now.column pivot.now.inverse self.new.residuals self.new.constants }
+    {
+        let f = field::mul_mod(
+            self.residuals[square_place(k, pivot.column)],
+            pivot.inverse,
+            p,
+        );
+        less_row(&mut self.residuals, k, f, pivot.row, p);
+        less_row(&mut self.constants, k, f, pivot.row, p);
+    }
 
-// residuals, work: squares of numbers below p. taken: 0 for each row that waits. r: a row that does not. c: a column. v: a number.
-// Takes row r from each of the m rows that wait.
-pub(crate) fn clear_rows(
-    residuals: &mut [u32; SQUARE],
-    work: &mut [u32; SQUARE],
-    taken: [usize; ROWS],
-    r: usize,
-    c: usize,
-    v: u32,
-    p: u32,
-    m: usize,
-)
-    requires full { Full residuals.old × Full work.old }
-    requires each { Each p residuals.old × Each p work.old }
-    requires r_lt_most_rows { (r < most_rows) × ((c < most_rows) × (m ≤ most_rows)) }
-    requires r_nonzero { get_or taken r 0 ≢ 0 }
-    ensures { Cleared p residuals.old work.old taken r c v m residuals.new work.new }
-{
-    let mut k = 0;
-    while k < m {
-        if taken[k] == 0 {
-            less_both(residuals, work, k, r, c, v, p);
+    // taken: the rows that do not wait. pivot: one of those, a column and a number.
+    // Takes the pivot's row from each of the m rows that wait.
+    pub(crate) fn clear(&mut self, taken: &[bool; ROWS], pivot: &Pivot, p: u32, m: usize)
+        requires full { Full self.old.residuals × Full self.old.constants }
+        requires each { Each p self.old.residuals × Each p self.old.constants }
+        requires row_lt_most_rows { (pivot.now.row < most_rows) × ((pivot.now.column < most_rows) × (m ≤ most_rows)) }
+        requires row_taken { get_or taken.now pivot.now.row false ≢ false }
+        ensures { Cleared p self.old.residuals self.old.constants taken.now pivot.now.row pivot.now.column pivot.now.inverse m self.new.residuals self.new.constants }
+    {
+        for k in 0..m {
+            if !taken[k] {
+                self.clear_row(k, pivot, p);
+            }
         }
-        k += 1;
     }
 }

@@ -1,69 +1,67 @@
-use borrow.Author.Rules.{rules}
-use lib.ListN.{length}
-use Rattle.rules.specs.Table.{table}
-use Rattle.pivots.specs.Order.{degree_at}
+use Rattle.std.proofs.Common.{◌≡◌, refl, ℕ, Bool, false, get_or, sym, subst, ◌∙◌, true≢false, suc, ◌-◌, ◌+◌, ◌<◌, length, get_or-set_same, arith, rules}
+use Rattle.rules.specs.Sizes.{most_rows}
+use Rattle.rules.specs.Table.{table, table_all}
+use Rattle.laws.specs.RowOrder.{next_row_some}
+use Rattle.pivots.specs.Order.{degree_at, is_taken}
 use Rattle.pivots.specs.Rows.{square_of, zeros_at}
 use Rattle.pivots.specs.State.{reflects_start}
 use Rattle.pivots.specs.Fold.{Folds, folds_start, folds_taken, folds_none, folds_end}
-use mathlib.Core.Path.{◌≡◌, refl, sym, subst, ◌∙◌}
-use Prim.Native.Nat.{suc, ◌-◌, ◌<◌}
-use lib.Seq.{get_or-set_same}
-use native.Mathlib.Omega.{arith}
-use Rattle.rules.specs.Sizes.{most_rows}
-use Rattle.layout.specs.Flat.{square_place}
 use Rattle.pivots.proofs.choose.Goals as goal
+use Rattle.pivots.proofs.choose.Goals.{in-Some, in_default}
 
-pub loop-left-init : goal.loop-left-init
+sub_zero : (n : ℕ) → n - 0 ≡ n
+sub_zero n = omega arith
+
+-- A list of which no row was taken.
+none_at : (n k : ℕ) → get_or (table n (λ i. false)) k false ≡ false
+none_at n k = table_all n (λ i. false) false (λ (t : Bool). t ≡ false) refl (λ i. refl) k
+
+pub loop-init : goal.loop-init
 unfolding most_rows table
-loop-left-init c =
+loop-init c =
     let a = c.args in
-    folds_start a.p a.m (degree_at a.degrees) (square_of a.p a.residuals) _ _ a.residuals c.identity-work.result c.identity-factors.result
-    (reflects_start a.p c.requires.prime a.m c.requires.m_le_most_rows (square_of a.p a.residuals) _ _ a.residuals c.identity-work.result c.identity-factors.result
-    refl refl (zeros_at most_rows) (zeros_at most_rows) (search rules) c.requires.each (λ i j hi hj. refl) c.identity-work.ensures c.identity-factors.ensures)
-
-pub overflow_sub-left : goal.overflow_sub-left
-unfolding most_rows square_place
-overflow_sub-left c = search rules
-
-pub offset_bounds-taken-i : goal.offset_bounds-taken-i
-unfolding most_rows square_place
-offset_bounds-taken-i c = search rules
+    let square = square_of a.p a.residuals.now in
+    rw (sub_zero a.m) (folds_start a.p a.m (degree_at a.degrees.now) square _ _ a.residuals.now c.identity.result c.identity-2.result
+    (reflects_start a.p c.requires.prime a.m c.requires.m_le_most_rows square _ _ a.residuals.now c.identity.result c.identity-2.result
+    refl refl (none_at most_rows) (zeros_at most_rows) (search rules) c.requires.each (λ i j hi hj. refl) c.identity.ensures c.identity-2.ensures))
 
 pub bounds-taken-i : goal.bounds-taken-i
-unfolding most_rows square_place
-bounds-taken-i c = search rules
-
-pub take_row-requires : goal.take_row-requires
-take_row-requires c =
-    let l = c.loop-left in
-    let i = c.next_row-i.result in
-    let inside : i < length l.taken = omega (arith, l.invariant.reflects.taken_full) in
-    record { prime = c.requires.prime; room = l.invariant.reflects.room; i_lt_m = (omega arith, (c.requires.m_le_most_rows, λ e. absurd (omega (arith, sym (get_or-set_same l.taken i 1 0 inside) ∙ e)))) }
-
-pub loop-left-preserved-then-i-m : goal.loop-left-preserved-then-i-m
-loop-left-preserved-then-i-m c =
-    let l = c.loop-left in
+unfolding most_rows
+bounds-taken-i c =
     let a = c.args in
-    let next = c.next_row-i in
-    let more : l.left ≡ suc (l.left - 1) = omega arith in
-    folds_taken a.p a.m (degree_at a.degrees) (square_of a.p a.residuals) (l.left - 1) l.taken l.moves l.rest l.work l.factors
-    (subst (λ k. Folds a.p a.m (degree_at a.degrees) (square_of a.p a.residuals) k l.taken l.moves l.rest l.work l.factors) more l.invariant)
-    next.result next.ensures _ _ _ _ (omega arith) c.take_row.ensures
+    omega (arith, (next_row_some (degree_at a.degrees.now) (is_taken c.loop.taken) a.m c.in-Some.i (sym c.in-Some.ensures)).0)
 
-pub loop-left-preserved : goal.loop-left-preserved
-loop-left-preserved c =
-    let l = c.loop-left in
+pub take_row-requires-clause-i_lt_m : goal.take_row-requires-clause-i_lt_m
+take_row-requires-clause-i_lt_m c =
     let a = c.args in
-    let next = c.next_row-i in
-    let more : l.left ≡ suc (l.left - 1) = omega arith in
-    folds_none a.p a.m (degree_at a.degrees) (square_of a.p a.residuals) (l.left - 1) l.taken l.moves l.rest l.work l.factors
-    (subst (λ k. Folds a.p a.m (degree_at a.degrees) (square_of a.p a.residuals) k l.taken l.moves l.rest l.work l.factors) more l.invariant)
-    next.result next.ensures (omega arith)
+    let l = c.loop in
+    let hi = (next_row_some (degree_at a.degrees.now) (is_taken l.taken) a.m c.in-Some.i (sym c.in-Some.ensures)).0 in
+    let inside : c.in-Some.i < length l.taken = omega (arith, l.invariant.reflects.taken_full) in
+    (hi, (c.requires.m_le_most_rows, λ e. true≢false (sym (get_or-set_same l.taken c.in-Some.i _ _ inside) ∙ e)))
+
+pub loop-preserved : goal.loop-preserved
+loop-preserved c =
+    let a = c.args in
+    let l = c.loop in
+    let degree = degree_at a.degrees.now in
+    let square = square_of a.p a.residuals.now in
+    let left : a.m - l.counter ≡ suc (a.m - (l.counter + 1)) = omega arith in
+    let so_far = subst (λ n. Folds a.p a.m degree square n l.taken l.choice.moves l.work.residuals l.work.constants l.choice.factors) left l.invariant in
+    elim c.match-next_row.branch [
+      | in-Some w ↦
+          rw (w.work-is, w.choice-is, w.taken-is) (folds_taken a.p a.m degree square (a.m - (l.counter + 1)) l.taken l.choice.moves l.work.residuals
+          l.work.constants l.choice.factors so_far _ _ _ _ w.in-Some.i w.in-Some.ensures w.take_row.ensures)
+      | in_default w ↦
+          rw (w.work-is, w.choice-is, w.taken-is) (folds_none a.p a.m degree square (a.m - (l.counter + 1)) l.taken l.choice.moves l.work.residuals
+          l.work.constants l.choice.factors so_far w.in_default.ensures)
+    ]
 
 pub returns : goal.returns
 returns c =
-    let l = c.loop-left in
     let a = c.args in
-    let none_left : l.left ≡ 0 = omega arith in
-    folds_end a.p a.m (degree_at a.degrees) (square_of a.p a.residuals) l.taken l.moves l.rest l.work l.factors
-    (subst (λ k. Folds a.p a.m (degree_at a.degrees) (square_of a.p a.residuals) k l.taken l.moves l.rest l.work l.factors) none_left l.invariant)
+    let l = c.loop in
+    let none_left : a.m - l.counter ≡ 0 = omega arith in
+    let degree = degree_at a.degrees.now in
+    let square = square_of a.p a.residuals.now in
+    folds_end a.p a.m degree square l.taken l.choice.moves l.work.residuals l.work.constants l.choice.factors
+    (subst (λ n. Folds a.p a.m degree square n l.taken l.choice.moves l.work.residuals l.work.constants l.choice.factors) none_left l.invariant)

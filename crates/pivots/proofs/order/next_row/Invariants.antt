@@ -1,9 +1,5 @@
-use Prim.Native.Nat.{◌-◌, ◌≤◌}
 use Rattle.pivots.specs.Order.{Best, degree_at, is_taken}
 use Rattle.pivots.proofs.order.next_row.Given as goal
 
 abbrev pub invariant-loop-i : goal.invariant-loop-i
-invariant-loop-i l = (l.i ≤ l.m) × ((l.best ≤ l.m) × Best (degree_at l.degrees) (is_taken l.taken) l.m l.i l.best)
-
-abbrev pub decreases-loop-i : goal.decreases-loop-i
-decreases-loop-i l = l.m - l.i
+invariant-loop-i l = Best (degree_at l.degrees) (is_taken l.taken) l.m l.i l.best
