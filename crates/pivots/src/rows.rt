@@ -98,7 +98,8 @@ impl Work {
         ensures { Cleared p self.old.residuals self.old.constants taken.now pivot.now.row pivot.now.column pivot.now.inverse m self.new.residuals self.new.constants }
     {
         for k in 0..m {
-            if !taken[k] {
+            let waits = !taken[k];
+            if waits {
                 self.clear_row(k, pivot, p);
             }
         }
