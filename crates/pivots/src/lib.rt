@@ -17,7 +17,6 @@ mod rows;
 
 use crate::order::next_row;
 use crate::rows::{Pivot, Work, copy_row, first_column, identity};
-use field::Inverse;
 use layout::{ROWS, SQUARE, square_place};
 
 // What a step takes: for each row the power of X by which it moves, 1 if it is a pivot and 0 if not; and the identity less the constants of
@@ -39,7 +38,7 @@ fn clear_by(work: &mut Work, taken: &[bool; ROWS], i: usize, c: usize, p: u32, m
     requires i_nonzero { (get_or taken.now i false ≢ false) × (number_at work.old.residuals i c ≢ 0) }
     ensures { Pivoted p work.old.residuals work.old.constants taken.now i c m work.new.residuals work.new.constants }
 {
-    let Inverse::Of(inverse) = field::inverse_mod(work.residuals[square_place(i, c)], p) else {
+    let Some(inverse) = field::inverse_mod(work.residuals[square_place(i, c)], p) else {
         return; // not reached: 0 alone has no inverse
     };
     let pivot = Pivot {

@@ -1,4 +1,4 @@
-use Rattle.field.specs.Meant.{answered_of, answered_none}
+use Rattle.field.specs.Laws.{answered_of, answered_none}
 use Rattle.pivots.proofs.clear_by.Goals as goal
 
 pub returns-in_default : goal.returns-in_default
@@ -11,6 +11,6 @@ returns c =
     let place = c.square_place.ensures in
     record {
       v = _;
-      inverse = rw place at (answered_of _ c.requires.prime _ _ _ c.inverse_mod.ensures c.in-Of.is);
+      inverse = rw place at (answered_of _ c.requires.prime _ _ _ c.inverse_mod.ensures c.in-Some.is);
       cleared = c.clear.ensures;
     }
