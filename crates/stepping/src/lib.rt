@@ -1,6 +1,6 @@
 // Document 02, L7, one step on the rows of a matrix of polynomials: the combinations are subtracted, and each pivot is multiplied by X. The
 // rows of P and those of P·F change by the same step.
-#![tactic(auto)]
+#![tactic(auto, unfolding(rules::specs::Sizes::most_rows, rules::specs::Sizes::most_length, layout::specs::Flat::square_place, layout::specs::Flat::entry_place))]
 
 ghost use Rattle.std.specs.Prelude.{◌≤◌, ◌<◌};
 ghost use Rattle.rules.specs.Sizes.{most_rows, most_length};
@@ -11,8 +11,8 @@ use layout::{ENTRY_COEFFICIENTS, entry_place, square_place};
 use pivots::Choice;
 use std::ops::Range;
 
-// What a step is made from: the coefficients of a matrix before it, and what the step takes; the modulus, above all coefficients and factors,
-// and the number of rows.
+// What a step is made from: the coefficients of a matrix before it, and what it takes; the modulus, above all coefficients and factors, and
+// the number of rows.
 #[derive(Clone, Copy)]
 struct Step<'a> {
     old: &'a [u32; ENTRY_COEFFICIENTS],
@@ -24,7 +24,6 @@ struct Step<'a> {
 impl<'a> Step<'a> {
     // i: a row. j: a column. t: a power.
     // The coefficient at power t, in column j, of the combination of the rows by row i of the factors.
-    #[tactic(auto, unfolding(rules::specs::Sizes::most_rows, rules::specs::Sizes::most_length, layout::specs::Flat::square_place, layout::specs::Flat::entry_place))]
     fn combined(&self, i: usize, j: usize, t: usize) -> u32
         requires rows { Rows self.now.p self.now.old.now self.now.choice.now.factors }
         requires m_le_most_rows { (self.now.m ≤ most_rows) × ((i < most_rows) × ((j < most_rows) × (t < most_length))) }
@@ -53,5 +52,72 @@ impl<'a> Step<'a> {
             return 0;
         }
         self.old[entry_place(i, j, t - 1)]
+    }
+
+    // out: the coefficients of a matrix. i, j: as above. powers: of the coefficients that are made.
+    // Puts the coefficients that the entry in row i and column j has next, at those powers.
+    fn put_entry(
+        &self,
+        out: &mut [u32; ENTRY_COEFFICIENTS],
+        i: usize,
+        j: usize,
+        powers: &Range<usize>,
+    )
+        requires rows { Rows self.now.p self.now.old.now self.now.choice.now.factors × Kept self.now.p out.old }
+        requires m_le_most_rows { (self.now.m ≤ most_rows) × ((i < most_rows) × ((j < most_rows) × (powers.now.start ≤ powers.now.end))) }
+        requires to_le_most_length { powers.now.end ≤ most_length }
+        ensures { Filled self.now.p (Next self.now.p self.now.m self.now.old.now self.now.choice.now.moves self.now.choice.now.factors)
+            (EntryBox i j powers.now.start powers.now.end) out.old out.new }
+    {
+        for t in powers.start..powers.end {
+            out[entry_place(i, j, t)] = self.next_coefficient(i, j, t);
+        }
+    }
+
+    // The same for the first `columns` entries of row i.
+    fn put_row(
+        &self,
+        out: &mut [u32; ENTRY_COEFFICIENTS],
+        i: usize,
+        columns: usize,
+        powers: &Range<usize>,
+    )
+        requires rows { Rows self.now.p self.now.old.now self.now.choice.now.factors × Kept self.now.p out.old }
+        requires m_le_most_rows { (self.now.m ≤ most_rows) × ((i < most_rows) × ((columns ≤ most_rows) × (powers.now.start ≤ powers.now.end))) }
+        requires to_le_most_length { powers.now.end ≤ most_length }
+        ensures { Filled self.now.p (Next self.now.p self.now.m self.now.old.now self.now.choice.now.moves self.now.choice.now.factors)
+            (RowBox i columns powers.now.start powers.now.end) out.old out.new }
+    {
+        for j in 0..columns {
+            self.put_entry(out, i, j, powers);
+        }
+    }
+}
+
+// rows: the coefficients of a matrix with m rows, numbers below p. choice: not 0 in its moves for each row that is a pivot, and the identity
+// less the constants of the combinations that are subtracted. columns: how many columns there are. powers: of coefficients.
+// Makes the step at those powers; the coefficients at other powers stay.
+pub fn step_rows(
+    rows: &mut [u32; ENTRY_COEFFICIENTS],
+    choice: &Choice,
+    p: u32,
+    m: usize,
+    columns: usize,
+    powers: Range<usize>,
+)
+    requires rows { Rows p rows.old choice.now.factors × Kept p rows.old }
+    requires m_le_most_rows { (m ≤ most_rows) × ((columns ≤ most_rows) × (powers.start ≤ powers.end)) }
+    requires to_le_most_length { powers.end ≤ most_length }
+    ensures { Filled p (Next p m rows.old choice.now.moves choice.now.factors) (RowsBox m columns powers.start powers.end) rows.old rows.new }
+{
+    let old = *rows;
+    let step = Step {
+        old: &old,
+        choice,
+        p,
+        m,
+    };
+    for i in 0..m {
+        step.put_row(rows, i, columns, &powers);
     }
 }
