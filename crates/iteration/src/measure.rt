@@ -1,5 +1,7 @@
 // How many coefficients each entry of P has: the zeros behind the last other number do not count.
-ghost use Rattle.std.specs.Prelude.{◌≡◌, ◌≤◌, ◌<◌};
+#![tactic(auto, unfolding(rules::specs::Sizes::most_rows, rules::specs::Sizes::most_length, layout::specs::Flat::square_place, layout::specs::Flat::entry_place))]
+
+ghost use Rattle.std.specs.Prelude.{◌<◌};
 ghost use Rattle.rules.specs.Sizes.{most_rows};
 ghost use Rattle.iteration.specs.Measure.{Measured, Lengths};
 
@@ -11,14 +13,12 @@ fn entry_length(entries: &[u32; ENTRY_COEFFICIENTS], i: usize, j: usize) -> usiz
     requires { (i < most_rows) × (j < most_rows) }
     ensures { Measured entries.now i j result }
 {
-    let mut length = LENGTH;
-    while 0 < length {
-        if entries[entry_place(i, j, length - 1)] != 0 {
-            return length;
+    for t in (0..LENGTH).rev() {
+        if entries[entry_place(i, j, t)] != 0 {
+            return t + 1;
         }
-        length -= 1;
     }
-    length
+    0
 }
 
 // entries: the coefficients of P.
@@ -27,10 +27,8 @@ pub(crate) fn lengths(entries: &[u32; ENTRY_COEFFICIENTS]) -> [usize; SQUARE]
     ensures { Lengths entries.now result }
 {
     let mut counts = [0; SQUARE];
-    let mut place = 0;
-    while place < SQUARE {
-        counts[place] = entry_length(entries, place / ROWS, place % ROWS);
-        place += 1;
+    for (place, count) in counts.iter_mut().enumerate() {
+        *count = entry_length(entries, place / ROWS, place % ROWS);
     }
     counts
 }
