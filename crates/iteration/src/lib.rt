@@ -1,6 +1,6 @@
 // Document 02, L7: "the plain iteration of source document 004", order step by order step. The product of P and F is kept beside P, so that
 // a residual is looked up, and so are the row degrees.
-#![tactic(auto)]
+#![tactic(auto, unfolding(rules::specs::Sizes::most_rows, rules::specs::Sizes::most_order))]
 
 ghost use Rattle.std.specs.Prelude.{◌≤◌};
 ghost use Rattle.rules.specs.Sizes.{most_order};
