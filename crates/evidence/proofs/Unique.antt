@@ -7,4 +7,4 @@ use Rattle.evidence.proofs.put_evidence.Reads as put_evidence
 pub put_evidence_unique : OneResult put_evidence_kinds.ps put_evidence_kinds.r put_evidence.Asked put_evidence.Learnt
 put_evidence_unique κs a z z' w w' asked h h' =
     let e = appended_unique _ _ _ _ _ _ _ h h' in
-    (e.0, λ i. (e.1 i, (tt, (tt, (tt, (tt, tt))))))
+    (e.0, λ i. (e.1 i, (tt, (tt, tt))))

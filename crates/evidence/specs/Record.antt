@@ -2,9 +2,9 @@
 --   number, row_numbers      a number of it, and those of a row
 --   write_table              what is written of a table grows by its last member
 --   RowPut, row_start, row_more, row_done        the first numbers of a row are put: none, one more, all
---   RowsPut, rows_start, rows_more, record_done, rows_fit        the first rows are put: none, one more, all
+--   RowsPut, rows_start, rows_more, record_done        the first rows are put: none, one more, all
 use Rattle.std.specs.Prelude.{◌≡◌, refl, List, [], ◌∷◌, ◌++◌, ℕ, zero, suc, ◌+◌, ◌*◌, ◌≤◌, ◌<◌, length}
-use Rattle.std.proofs.Common.{sym, ap₂, ◌∙◌, append-nil, append_assoc, zero-le, le_antisymm, mul-le-mul_right, arith, length-append}
+use Rattle.std.proofs.Common.{sym, ap₂, ◌∙◌, append-nil, append_assoc, zero-le, le_antisymm, arith, length-append}
 use Rattle.std.proofs.Math.Path.{ap, subst}
 use Rattle.rules.specs.Claim.{Problem}
 use Rattle.rules.specs.Files.{CE_mark}
@@ -91,7 +91,3 @@ module _ (b : Problem) (P : List (List (List ℕ))) (at : ℕ) (before : List �
   record_done first after end i y h x =
       appended_both first before after 0 at end (bytes 2 CE_mark) _ y
       (subst (λ k. Appended before after at end (write_all (write_all (bytes 4)) (table k (row_numbers b P)))) (le_antisymm x.rows h) x.put)
-
--- One row more is still within the record.
-pub rows_fit : (i m n : ℕ) → i < m → 4 * i * n + 4 * n ≤ 4 * m * n
-rows_fit i m n h = omega (arith, mul-le-mul_right n h)
