@@ -7,10 +7,10 @@
 --   none_open                where it leaves none open, no one divides p
 --   block_start, block_after what the first number of a block is, in the block and after it
 --   room                     a whole block is left where one starts
-use Rattle.std.specs.Prelude.{◌≡◌, ℕ, zero, suc, ◌+◌, ◌*◌, ◌/◌, ◌%◌, ◌<◌, ◌≤◌, cond, List, length, nat_le, slice_index, slice_index_or, refl}
+use Rattle.std.specs.Prelude.{◌≡◌, ℕ, zero, suc, ◌+◌, ◌*◌, ◌/◌, ◌%◌, ◌<◌, ◌≤◌, List, length, nat_le, slice_index, slice_index_or, refl}
 use Rattle.std.proofs.Common.{sym, ap, ap₂, ◌∙◌, add-one, arith, le-leb}
 use Rattle.std.proofs.Math.Logic.{by_cases}
-use Rattle.std.specs.Int.{◌∣◌}
+use Rattle.std.specs.Int.{◌∣◌, from_bool}
 use Rattle.std.proofs.Math.Decide.{ℕ_discrete, dec_lt}
 use Rattle.divisors.specs.Found.{block, first}
 use Rattle.divisors.specs.Quotient.{high_part, positive, not_divided}
@@ -52,18 +52,18 @@ clear_both {b = b} before after = record { none = λ i lo hi. by_cases (dec_lt i
 -- How many of the n numbers from place a on are left open: the high half that is computed of the quotient by each is at most the limit.
 unfoldable pub left_open : (q v : List ℕ) (a h l limit n : ℕ) → ℕ
 left_open q v a h l limit zero = 0
-left_open q v a h l limit (suc n) = left_open q v a h l limit n + cond (nat_le (high_part h l (slice_index q (a + n)) (slice_index v (a + n))) limit) 1 0
+left_open q v a h l limit (suc n) = left_open q v a h l limit n + from_bool (nat_le (high_part h l (slice_index q (a + n)) (slice_index v (a + n))) limit)
 
 -- One number more, of which x is computed.
 pub open_more : (q v : List ℕ) (a h l limit n count x one : ℕ) → count ≡ left_open q v a h l limit n → x ≡ high_part h l (slice_index q (a + n)) (slice_index v (a + n))
-    → one ≡ cond (nat_le x limit) 1 0 → count + one ≡ left_open q v a h l limit (n + 1)
+    → one ≡ from_bool (nat_le x limit) → count + one ≡ left_open q v a h l limit (n + 1)
 unfolding left_open
 open_more q v a h l limit n count x one before computed counted =
-    ap₂ (λ y z. y + z) before (counted ∙ ap (λ y. cond (nat_le y limit) 1 0) computed) ∙ sym (ap (left_open q v a h l limit) (add-one n))
+    ap₂ (λ y z. y + z) before (counted ∙ ap (λ y. from_bool (nat_le y limit)) computed) ∙ sym (ap (left_open q v a h l limit) (add-one n))
 
 -- What is not counted is above the limit.
-uncounted : (x limit : ℕ) → cond {A = ℕ} (nat_le x limit) 1 0 ≡ 0 → limit < x
-uncounted x limit e = by_cases (dec_lt limit x) (λ more. more) (λ not. absurd (omega (arith, e, ap (λ b. cond {A = ℕ} b 1 0) (le-leb x limit (omega arith)))))
+uncounted : (x limit : ℕ) → from_bool (nat_le x limit) ≡ 0 → limit < x
+uncounted x limit e = by_cases (dec_lt limit x) (λ more. more) (λ not. absurd (omega (arith, e, ap from_bool (le-leb x limit (omega arith)))))
 
 -- Where none is left open and the limit is at least the high half of p divided by the first number, no one divides p.
 pub none_open : {q v : List ℕ} → Table q v → (a h l limit n count : ℕ) → l < 65536 → h < 65536 → a + n ≤ length q → h / slice_index q a ≤ limit → count
@@ -76,7 +76,7 @@ none_open {q} {v} table a h l limit (suc n) count small_l small_h inside bound c
     ((table_positive table).at a (omega arith)) (table.rising a (a + n) (omega arith) (omega arith)) bound (uncounted _ limit (omega (arith, sum))))
     (none_open table a h l limit n _ small_l small_h (omega arith) bound refl (omega (arith, sum)))
   where
-    sum : left_open q v a h l limit n + cond (nat_le (high_part h l (slice_index q (a + n)) (slice_index v (a + n))) limit) 1 0 ≡ 0
+    sum : left_open q v a h l limit n + from_bool (nat_le (high_part h l (slice_index q (a + n)) (slice_index v (a + n))) limit) ≡ 0
     sum = sym counted ∙ none
 
 -- The first number of a block, at each place of the block …

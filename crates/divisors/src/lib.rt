@@ -7,7 +7,7 @@
 // needed to say so. Where it gives no more, a division settles it.
 #![tactic(auto)]
 
-ghost use Rattle.std.specs.Prelude.{◌≡◌, ◌+◌, ◌*◌, ◌/◌, ◌%◌, ◌<◌, ◌≤◌, length, if◌then◌else◌, nat_le};
+ghost use Rattle.std.specs.Prelude.{◌≡◌, ◌+◌, ◌*◌, ◌/◌, ◌%◌, ◌<◌, ◌≤◌, length};
 ghost use Rattle.divisors.specs.Quotient.{high_part};
 ghost use Rattle.divisors.specs.Table.{Table, Positive, left_open};
 ghost use Rattle.divisors.specs.Found.{block, Found, InBlock, InTable, OddDivisor};
@@ -18,28 +18,12 @@ const BLOCK: usize = 64;
 // 2^16: a number of 32 bits is its high half times this, and its low half.
 const HALF: u32 = 65536;
 
-// x: any number.
-// The same number, wider.
-fn wide(x: u16) -> u32
-    ensures { (result ≡ x) × (result < 65536) }
-{
-    x as u32
-}
-
-// x and y: any numbers.
-// The low half of their product.
-fn low_product(x: u16, y: u16) -> u16
-    ensures { result ≡ x * y % 65536 }
-{
-    (x as u32 * y as u32 % HALF) as u16
-}
-
 // x and y: any numbers.
 // The high half of their product.
 fn high_product(x: u16, y: u16) -> u16
     ensures { result ≡ x * y / 65536 }
 {
-    (x as u32 * y as u32 / HALF) as u16
+    (u32::from(x) * u32::from(y) / HALF) as u16
 }
 
 // high and low: the halves of a number p. q: a number, and v its inverse modulo 2^16.
@@ -47,16 +31,8 @@ fn high_product(x: u16, y: u16) -> u16
 fn high_quotient(high: u16, low: u16, q: u16, v: u16) -> u16
     ensures { result ≡ high_part high low q v }
 {
-    let carried = high_product(q, low_product(low, v));
-    low_product(std::num::wrapping_sub_u16(high, carried), v)
-}
-
-// x and limit: any numbers.
-// 1 if x is at most the limit, else 0.
-fn one_within(x: u16, limit: u16) -> u16
-    ensures { result ≡ (if nat_le x limit then 1 else 0) }
-{
-    if x <= limit { 1 } else { 0 }
+    let carried = high_product(q, low.wrapping_mul(v));
+    high.wrapping_sub(carried).wrapping_mul(v)
 }
 
 // primes and inverses: a table. from: where a block of it starts. high and low: the halves of a number p. limit: what the high half of
@@ -69,11 +45,9 @@ fn hits(primes: &[u16], inverses: &[u16], from: usize, high: u16, low: u16, limi
     ensures { result ≡ left_open primes.now inverses.now from high low limit block }
 {
     let mut count: u16 = 0;
-    let mut i: usize = 0;
-    while i < BLOCK {
+    for i in 0..BLOCK {
         let part = high_quotient(high, low, primes[from + i], inverses[from + i]);
-        count += one_within(part, limit);
-        i += 1;
+        count += u16::from(part <= limit);
     }
     count
 }
@@ -85,12 +59,10 @@ fn divisor_by_division(primes: &[u16], from: usize, p: u32) -> bool
     requires block_in_bounds { from + block ≤ length primes.now }
     ensures { Found (InBlock primes.now from p) result }
 {
-    let mut i = from;
-    while i < from + BLOCK {
-        if p % wide(primes[i]) == 0 {
+    for i in from..from + BLOCK {
+        if p % u32::from(primes[i]) == 0 {
             return true;
         }
-        i += 1;
     }
     false
 }
@@ -116,16 +88,14 @@ pub fn divisor_among(primes: &[u16], inverses: &[u16], p: u32) -> bool
     requires { Table primes.now inverses.now }
     ensures { Found (InTable primes.now p) result }
 {
-    let mut from: usize = 0;
-    while from < primes.len() {
-        let first = wide(primes[from]);
+    for from in (0..primes.len()).step_by(BLOCK) {
+        let first = u32::from(primes[from]);
         if p < first * first {
             return false;
         }
         if divisor_in_block(primes, inverses, from, p) {
             return true;
         }
-        from += BLOCK;
     }
     false
 }
@@ -137,7 +107,7 @@ pub fn odd_divisor(p: u32, from: u32) -> bool
     ensures { Found (OddDivisor from p) result }
 {
     let mut d = from;
-    while d as u64 * d as u64 <= p as u64 {
+    while u64::from(d) * u64::from(d) <= u64::from(p) {
         if p % d == 0 {
             return true;
         }
