@@ -1,7 +1,9 @@
 -- What the numbers of a table show by computation: a test over the whole table, and what follows from it for each number.
 --   rows                     the numbers rise, each beside its inverse modulo 2^16
 --   covers                   every odd number of a range that the table leaves out has a divisor among the primes up to 211
+--   IsPart                   a part of the table: its numbers are all odd primes of a range, each beside its inverse
 --   table_of_rows            what passes `rows` is a table
+--   part_of_tests            what passes both tests is a part
 --   sifted_of_found          by `covers`, a search in the table is a search among all the primes of the range
 use Rattle.std.specs.Prelude.{◌≡◌, refl, Bool, true, false, List, [], ◌∷◌, ℕ, zero, suc, ◌+◌, ◌-◌, ◌*◌, ◌/◌, ◌%◌, ◌≤◌, ◌<◌, T, eqb, ltb, length, get_or}
 use Rattle.std.proofs.Common.{sym, ap, subst, suc-le-suc, le_of_suc-le-suc, not-suc-le-zero, le_trans, mul-le-mul, arith, eqb→eq, ltb→lt}
@@ -150,6 +152,17 @@ bounds_of hi d [] t = ((gap_of d hi t).0, λ i h. absurd (not-suc-le-zero h))
 bounds_of hi d (q ∷ qs) t =
     let (before, rest) = both_parts (gap d q) _ t in
     bounds_cons hi d q qs (gap_of d q before).0 (bounds_of hi (q + 2) qs rest)
+
+-- A part of the table: a table that covers the odd numbers from lo on and below hi.
+pub record IsPart (lo hi : ℕ) (q v : List ℕ) : Type 0 where
+  pub three : 3 ≤ lo
+  pub odd : lo % 2 ≡ 1
+  pub table : Table q v
+  pub covered : T (covers hi lo q)
+
+-- What passes the tests is one.
+pub part_of_tests : (lo hi : ℕ) (q v : List ℕ) → 3 ≤ lo → lo % 2 ≡ 1 → T (rows 0 q v) → length q % block ≡ 0 → T (covers hi lo q) → IsPart lo hi q v
+part_of_tests lo hi q v three odd rising whole covered = record { three = three; odd = odd; table = table_of_rows q v rising whole; covered = covered }
 
 -- The odd primes of a range are covered by the table; so a search in it is a search among them.
 pub sifted_of_found : (hi lo p : ℕ) (q v : List ℕ) (r : Bool) → T (covers hi lo q) → lo % 2 ≡ 1 → 3 ≤ lo → hi ≤ p → Table q v → Found (InTable q p) r
