@@ -6,9 +6,9 @@ ghost use Rattle.field.specs.Table.{Inverses};
 // Its prime.
 pub(crate) const PRIME: u32 = 251;
 
-// The inverses of 1, 2, …, 250. They are bytes, because the table is copied to the stack when it is read.
+// The inverses of 1, 2, …, 250.
 #[rattlefmt::skip]
-const INVERSES: [u8; 250] = [
+static INVERSES: [u8; 250] = [
     1, 126, 84, 63, 201, 42, 36, 157, 28, 226, 137, 21, 58, 18, 67, 204, 192, 14, 185, 113, 12, 194, 131, 136, 241, 29, 93, 9, 26,
     159, 81, 102, 213, 96, 208, 7, 95, 218, 103, 182, 49, 6, 216, 97, 106, 191, 235, 68, 41, 246, 64, 140, 90, 172, 178, 130, 229,
     13, 234, 205, 107, 166, 4, 51, 112, 232, 15, 48, 211, 104, 99, 129, 196, 173, 164, 109, 163, 177, 197, 91, 31, 150, 124, 3, 189,
@@ -38,6 +38,5 @@ pub(crate) fn inverse(a: u32) -> u32
     requires a_bound { a < 251 }
     ensures { InverseOf 251 a result }
 {
-    let inverses = INVERSES;
-    listed(&inverses, a)
+    listed(&INVERSES, a)
 }

@@ -33,6 +33,7 @@ pub const COLUMN_COEFFICIENTS: usize = SQUARE * ORDER;
 pub const RECORD: usize = 2 + 4 * SQUARE;
 
 // Coefficients of F, all 0.
+#[tactic(auto, unfolding(rules::specs::Sizes::most_rows, rules::specs::Sizes::most_order, crate::specs::Flat::filled))]
 pub fn no_columns() -> [u32; COLUMN_COEFFICIENTS]
     ensures { result ≡ filled column_coefficients 0 }
 {
@@ -40,6 +41,7 @@ pub fn no_columns() -> [u32; COLUMN_COEFFICIENTS]
 }
 
 // Coefficients of P, all 0.
+#[tactic(auto, unfolding(rules::specs::Sizes::most_rows, rules::specs::Sizes::most_length, crate::specs::Flat::filled))]
 pub fn no_entries() -> [u32; ENTRY_COEFFICIENTS]
     ensures { result ≡ filled entry_coefficients 0 }
 {
@@ -47,6 +49,7 @@ pub fn no_entries() -> [u32; ENTRY_COEFFICIENTS]
 }
 
 // Where the number of row i and column j stands in an array with one number for each entry.
+#[tactic(auto, unfolding(rules::specs::Sizes::most_rows, crate::specs::Flat::square_place))]
 pub fn square_place(i: usize, j: usize) -> usize
     requires { (i < most_rows) × (j < most_rows) }
     ensures { result ≡ square_place i j }
@@ -55,6 +58,7 @@ pub fn square_place(i: usize, j: usize) -> usize
 }
 
 // Where the coefficient at power k of P's entry in row i and column j stands.
+#[tactic(auto, unfolding(rules::specs::Sizes::most_rows, rules::specs::Sizes::most_length, crate::specs::Flat::square_place, crate::specs::Flat::entry_place))]
 pub fn entry_place(i: usize, j: usize, k: usize) -> usize
     requires { (i < most_rows) × ((j < most_rows) × (k < most_length)) }
     ensures { result ≡ entry_place i j k }
@@ -63,6 +67,7 @@ pub fn entry_place(i: usize, j: usize, k: usize) -> usize
 }
 
 // Where the coefficient at power k of F's entry in row i and column j stands.
+#[tactic(auto, unfolding(rules::specs::Sizes::most_rows, rules::specs::Sizes::most_order, crate::specs::Flat::column_place))]
 pub fn column_place(i: usize, j: usize, k: usize) -> usize
     requires { (i < most_rows) × ((j < most_rows) × (k < most_order)) }
     ensures { result ≡ column_place i j k }
