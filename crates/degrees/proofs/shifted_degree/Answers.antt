@@ -11,10 +11,6 @@ returns-in_err-degree c =
     let none : c.args.length ≡ 0 = omega (arith, c.in_err-degree.ensures) in
     c.from_residual.ensures ∙ sym (ap (λ n. shifted_degree_of n c.args.shift) none ∙ shifted_zero c.args.shift)
 
-pub overflow_add-result : goal.overflow_add-result
-unfolding most_length most_shift
-overflow_add-result c = omega (arith, ints, c.in_ok-degree.ensures)
-
 pub returns : goal.returns
 unfolding most_length most_shift
 returns c =

@@ -3,12 +3,6 @@ use Rattle.rules.specs.Conditions.{shifted_degree_of}
 use Rattle.degrees.proofs.Degrees.{shift_back}
 use Rattle.degrees.proofs.term.Goals as goal
 
-pub shifted_degree-requires : goal.shifted_degree-requires
-shifted_degree-requires c = (
-  c.requires.sized.length_most c.square_place.result,
-  rw (shift_back c.args.basis.now.lengths c.args.head.now.shifts c.requires.sized c.args.j) (c.requires.sized.shift_most c.args.j),
-)
-
 pub returns : goal.returns
 returns c =
     c.shifted_degree.ensures

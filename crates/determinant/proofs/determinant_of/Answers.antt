@@ -1,4 +1,3 @@
-use native.Mathlib.Omega.{arith}
 use mathlib.Core.Path.{subst}
 use lib.ListN.{get_or}
 use mathlib.Core.List.{List}
@@ -10,18 +9,9 @@ use Rattle.rules.specs.Sizes.{most_rows}
 use Rattle.layout.specs.Flat.{cells}
 use Rattle.convolution.specs.Padded.{StandsFor}
 use Rattle.determinant.specs.Square.{Determinant}
-use Rattle.determinant.specs.Expansion.{InOrder, asked_whole, whole_square}
+use Rattle.determinant.specs.Expansion.{InOrder, whole_square}
 use Rattle.convolution.specs.Unpadded.{work_zeros, unpadded_coefficients}
 use Rattle.determinant.proofs.determinant_of.Goals as goal
-
-pub row_tops-tops-requires : goal.row_tops-tops-requires
-row_tops-tops-requires c =
-    record { m_le_most_rows = c.requires.1.few_rows; each = λ i. omega (arith, c.requires.1.padded.length_most i) }
-
-pub determinant-l-requires : goal.determinant-l-requires
-determinant-l-requires c =
-    let columns = c.all_columns-columns in
-    asked_whole columns.result c.requires.0 c.requires.1 c.row_tops-tops.ensures columns.ensures
 
 -- The array stands for the determinant of the matrix.
 whole : (p m : ℕ) (entries tops columns l : List ℕ) → m ≤ most_rows → InOrder columns → Determinant p m 0 entries tops columns l

@@ -1,18 +1,11 @@
 use native.Mathlib.Omega.{arith}
 use Rattle.rules.specs.Sizes.{most_rows, most_length}
 use Rattle.polynomial.specs.Coefficients.{most_power}
-use Rattle.convolution.specs.Padded.{capacity, Filled, filled_none, filled_more}
-use mathlib.Core.Path.{subst, sym}
+use Rattle.convolution.specs.Padded.{capacity, Filled, filled_more}
+use mathlib.Core.Path.{subst}
 use lib.ListN.{get_or}
 use Rattle.determinant.specs.Sign.{Signed, SignedCell, signed_cell, signed_entry}
 use Rattle.determinant.proofs.signed_entry.Goals as goal
-
-pub loop-k-init : goal.loop-k-init
-loop-k-init c =
-    let a = c.args in
-    let e = c.no_coefficients-l.ensures in
-    let cell = SignedCell a.p a.row a.column a.j a.basis.now.entries in
-    (omega arith, subst (Filled 0 cell) (sym e) (filled_none cell))
 
 pub loop-k-preserved : goal.loop-k-preserved
 unfolding capacity most_power most_rows most_length

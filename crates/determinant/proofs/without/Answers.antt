@@ -1,15 +1,11 @@
 use native.Mathlib.Omega.{arith}
-use mathlib.Core.Path.{◌≡◌, refl, ap, ◌∙◌}
+use mathlib.Core.Path.{◌≡◌, ap, ◌∙◌}
 use Prim.Native.Nat.{◌-◌}
 use lib.ListN.{get_or, length-set}
 use Rattle.algebra.specs.Sum.{skip, skip_below}
 use Rattle.rules.specs.Sizes.{most_rows}
 use Rattle.convolution.specs.Front.{front_more}
 use Rattle.determinant.proofs.without.Goals as goal
-
-pub loop-k-init : goal.loop-k-init
-unfolding most_rows
-loop-k-init c = (omega arith, (refl, λ i h. absurd (omega arith)))
 
 pub offset_bounds-columns-other : goal.offset_bounds-columns-other
 unfolding most_rows

@@ -1,5 +1,5 @@
 use Rattle.std.proofs.Common.{ap₂}
-use mathlib.Core.Path.{◌≡◌, refl, sym, ap, ◌∙◌}
+use mathlib.Core.Path.{◌≡◌, sym, ap, ◌∙◌}
 use native.Mathlib.Omega.{arith}
 use borrow.Author.Rules.{rules}
 use lib.IntN.{◌-ℤ◌}
@@ -9,7 +9,7 @@ use Rattle.rules.specs.Sizes.{most_rows}
 use Rattle.rules.specs.Table.{table}
 use Rattle.layout.specs.Flat.{width, cell}
 use Rattle.degrees.proofs.Degrees.{shift_back, difference_small}
-use Rattle.matrix.specs.Fill.{zero_row, row_of_zeros, filled_none, filled_more, filled_row}
+use Rattle.matrix.specs.Fill.{zero_row, row_of_zeros, filled_more, filled_row}
 use Rattle.matrix.specs.Leading.{leading_number, leading_some, leading_none, at_power}
 use Rattle.matrix.proofs.leading.leading_row.Goals as goal
 
@@ -20,10 +20,6 @@ returns-in_default c =
     (λ j.
     leading_none c.args.basis.now.entries c.args.basis.now.lengths c.args.head.now.shifts c.args.head.now.m c.args.i j
     (sym c.row_degree.ensures ∙ c.in_default.is)))
-
-pub loop-j-init : goal.loop-j-init
-unfolding most_rows table
-loop-j-init c = (search rules, filled_none 0 0 width _ _ refl)
 
 pub minus-power-requires : goal.minus-power-requires
 minus-power-requires c =

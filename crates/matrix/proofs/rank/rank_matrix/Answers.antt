@@ -5,21 +5,13 @@ use native.Mathlib.Omega.{arith}
 use Prim.Native.Nat.{◌+◌}
 use Rattle.rules.specs.Sizes.{most_rows}
 use Rattle.rules.specs.Table.{table}
-use Rattle.matrix.specs.Fill.{zero_row, filled_none, filled_more, filled_array}
+use Rattle.matrix.specs.Fill.{zero_row, filled_none, filled_array}
 use Rattle.matrix.specs.Rank.{rank_number}
 use Rattle.matrix.proofs.rank.rank_matrix.Goals as goal
 
 pub loop-i-init : goal.loop-i-init
 unfolding most_rows table zero_row
 loop-i-init c = (search rules, filled_none [] zero_row most_rows _ _ refl)
-
-pub loop-i-preserved : goal.loop-i-preserved
-unfolding most_rows
-loop-i-preserved c = (
-  search rules,
-  filled_more [] zero_row most_rows _ c.loop-i.i c.loop-i.rows c.rank_row.result c.loop-i.invariant.1 (omega arith)
-      c.rank_row.ensures,
-)
 
 pub returns : goal.returns
 returns c =

@@ -1,16 +1,10 @@
 use borrow.Author.Rules.{rules}
-use mathlib.Core.Path.{refl}
 use native.Mathlib.Omega.{arith}
 use Rattle.rules.specs.Sizes.{most_rows}
-use Rattle.rules.specs.Table.{table}
 use Rattle.layout.specs.Flat.{width}
-use Rattle.matrix.specs.Fill.{filled_none, filled_more, filled_row}
+use Rattle.matrix.specs.Fill.{filled_more, filled_row}
 use Rattle.matrix.specs.Rank.{rank_number}
 use Rattle.matrix.proofs.rank.rank_row.Goals as goal
-
-pub loop-j-init : goal.loop-j-init
-unfolding most_rows table
-loop-j-init c = (search rules, filled_none 0 0 width _ _ refl)
 
 pub loop-j-preserved : goal.loop-j-preserved
 unfolding most_rows
