@@ -1,32 +1,47 @@
 -- The code's places and refusals as those of the rules.
---   place, refusal           the code's place and refusal
---   taken                    what one field gives
---   going                    what several fields give, with what they left in the room lent
+--   place, code, refusal     the code's place, reason and refusal
+--   Field, taken             what one field gives
+--   Going, going             what several fields give, with what they left in the room lent
 --   place_one, refusal_one, taken_one    one of the code for each of the rules
-use Rattle.std.specs.Prelude.{◌≡◌, refl, cond, ℕ, ◌+◌, ◌<◌, eqb}
-use Rattle.std.proofs.Common.{sym, ap, ap₂}
+use Rattle.std.specs.Prelude.{◌≡◌, refl, cond, ℕ, ◌+◌, ◌<◌, eqb, Result as Outcome, Ok, Err}
+use Rattle.std.proofs.Common.{sym, ap, ◌∙◌}
 use Rattle.rules.specs.Reader.{Place, Refusal, Result, refused, got}
 use Rattle.laws.specs.ReaderLaws.{got_not_refused}
 use Rattle.place.specs.declared.Place.{Place as Spot}
+use Rattle.place.specs.declared.Reason.{Reason}
+use Rattle.place.specs.declared.Reason.TheVariants.{CutShort, WrongMark, WrongSize, WrongPrime, WrongNumber, NotBelowPrime, LastIsZero, BytesLeft}
 use Rattle.place.specs.declared.Stop.{Stop}
-use Rattle.place.specs.declared.Field.{Field}
-use Rattle.place.specs.declared.Field.TheVariants.{Value, Off as Field_Off}
-use Rattle.place.specs.declared.Going.{Going}
-use Rattle.place.specs.declared.Going.TheVariants.{On, Off}
 
 abbrev pub place : Spot → Place
 place q = record { file = q.file; number = q.number; start = q.start; at = q.at }
 
+-- The refusals' codes: document 01, "Verdicts", 1 to 8.
+abbrev pub code : Reason → ℕ
+code CutShort = 1
+code WrongMark = 2
+code WrongSize = 3
+code WrongPrime = 4
+code WrongNumber = 5
+code NotBelowPrime = 6
+code LastIsZero = 7
+code BytesLeft = 8
+
 abbrev pub refusal : Stop → Refusal
-refusal x = record { code = x.code; place = place x.place }
+refusal x = record { code = code x.reason; place = place x.place }
+
+abbrev pub Field : Type 0
+Field = Outcome (ℕ × Spot) Stop
 
 abbrev pub taken : Field → Result ℕ
-taken (Value v q) = got v (place q)
-taken (Field_Off x) = refused (refusal x)
+taken (Ok f) = got f.0 (place f.1)
+taken (Err x) = refused (refusal x)
+
+abbrev pub Going : Type 0
+Going = Outcome Spot Stop
 
 abbrev pub going : {A : Type 0} → Going → A → Result A
-going (On q) a = got a (place q)
-going (Off x) a = refused (refusal x)
+going (Ok q) a = got a (place q)
+going (Err x) a = refused (refusal x)
 
 -- The code's place at which a record starts, the one after a record, and how the reading goes on after it.
 abbrev pub after_of : Spot → Spot
@@ -36,24 +51,48 @@ abbrev pub opened_at : Spot → Spot
 opened_at q = record { file = q.file; number = q.number; start = q.at; at = q.at }
 
 abbrev pub closed_of : Going → Going
-closed_of (On q) = On (after_of q)
-closed_of (Off x) = Off x
+closed_of (Ok q) = Ok (after_of q)
+closed_of (Err x) = Err x
 
 -- One more record can be counted.
 abbrev pub Numbered : Going → Type 0
-Numbered (On q) = q.number < 65_535
-Numbered (Off x) = Unit {0}
+Numbered (Ok q) = q.number < 65_535
+Numbered (Err x) = Unit {0}
 
 -- After the last record of a file of that length: its end, or refusal 8.
 abbrev pub finish_of : ℕ → Spot → Going
-finish_of n q = cond (eqb q.at n) (On q) (Off (record { code = 8; place = opened_at q }))
+finish_of n q = cond (eqb q.at n) (Ok q) (Err (record { reason = BytesLeft; place = opened_at q }))
 
 -- The rules' places, refusals and results of a field tell the code's apart.
 pub place_one : (q r : Spot) → place q ≡ place r → q ≡ r
 place_one q r e = λ i. record { file = (e i).file; number = (e i).number; start = (e i).start; at = (e i).at }
 
+-- The reason of a code.
+abbrev reason : ℕ → Reason
+reason n =
+    cond (eqb n 1) CutShort
+    (cond (eqb n 2) WrongMark
+    (cond (eqb n 3) WrongSize
+    (cond (eqb n 4) WrongPrime (cond (eqb n 5) WrongNumber (cond (eqb n 6) NotBelowPrime (cond (eqb n 7) LastIsZero BytesLeft))))))
+
+reason_code : (r : Reason) → reason (code r) ≡ r
+reason_code CutShort = refl
+reason_code WrongMark = refl
+reason_code WrongSize = refl
+reason_code WrongPrime = refl
+reason_code WrongNumber = refl
+reason_code NotBelowPrime = refl
+reason_code LastIsZero = refl
+reason_code BytesLeft = refl
+
+code_one : (r t : Reason) → code r ≡ code t → r ≡ t
+code_one r t e = sym (reason_code r) ∙ ap reason e ∙ reason_code t
+
 pub refusal_one : (x y : Stop) → refusal x ≡ refusal y → x ≡ y
-refusal_one x y e = λ i. record { code = (e i).code; place = place_one x.place y.place (ap (λ (z : Refusal). z.place) e) i }
+refusal_one x y e =
+    let same = code_one x.reason y.reason (ap (λ (z : Refusal). z.code) e) in
+    let there = place_one x.place y.place (ap (λ (z : Refusal). z.place) e) in
+    λ i. record { reason = same i; place = there i }
 
 got_one : {v w : ℕ} {p q : Place} → got v p ≡ got w q → (v ≡ w) × (p ≡ q)
 got_one e = (cc, cc)
@@ -62,7 +101,10 @@ refused_one : {x y : Refusal} → ◌≡◌ {A = Result ℕ} (refused x) (refuse
 refused_one e = cc
 
 pub taken_one : (a b : Field) → taken a ≡ taken b → a ≡ b
-taken_one (Value v q) (Value w r) e = ap₂ Value (got_one e).0 (place_one q r (got_one e).1)
-taken_one (Value v q) (Field_Off y) e = got_not_refused (sym e) refl
-taken_one (Field_Off x) (Value w r) e = got_not_refused e refl
-taken_one (Field_Off x) (Field_Off y) e = ap Field_Off (refusal_one x y (refused_one e))
+taken_one (Ok f) (Ok g) e =
+    let (same, there) = got_one e in
+    let after = place_one f.1 g.1 there in
+    λ i. Ok (same i, after i)
+taken_one (Ok f) (Err y) e = got_not_refused (sym e) refl
+taken_one (Err x) (Ok g) e = got_not_refused e refl
+taken_one (Err x) (Err y) e = ap Err (refusal_one x y (refused_one e))

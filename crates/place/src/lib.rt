@@ -15,25 +15,24 @@ pub struct Place {
     pub at: usize,
 }
 
-// A refusal: its code, and the place of the field refused.
+// Why a field is refused, each reason with its code.
+#[derive(Clone, Copy)]
+pub enum Reason {
+    CutShort = 1,
+    WrongMark = 2,
+    WrongSize = 3,
+    WrongPrime = 4,
+    WrongNumber = 5,
+    NotBelowPrime = 6,
+    LastIsZero = 7,
+    BytesLeft = 8,
+}
+
+// A refusal: its reason, and the place of the field refused.
 #[derive(Clone, Copy)]
 pub struct Stop {
-    pub code: u8,
+    pub reason: Reason,
     pub place: Place,
-}
-
-// What one field gives: its value and the place after it, or the refusal.
-#[derive(Clone, Copy)]
-pub enum Field {
-    Value(u32, Place),
-    Off(Stop),
-}
-
-// What several fields give: the place after them, or the refusal. The values are stored where the caller lends room.
-#[derive(Clone, Copy)]
-pub enum Going {
-    On(Place),
-    Off(Stop),
 }
 
 // file: the file's number.
@@ -54,12 +53,7 @@ pub fn front(file: u8) -> Place
 pub fn opened(q: Place) -> Place
     ensures { result ≡ opened_at q }
 {
-    Place {
-        file: q.file,
-        number: q.number,
-        start: q.at,
-        at: q.at,
-    }
+    Place { start: q.at, ..q }
 }
 
 // q: a place. k: how many bytes.
@@ -68,12 +62,7 @@ pub fn past(q: Place, k: usize) -> Place
     requires { q.at + k < 2 ^ 64 }
     ensures { place result ≡ moved k (place q) }
 {
-    Place {
-        file: q.file,
-        number: q.number,
-        start: q.start,
-        at: q.at + k,
-    }
+    Place { at: q.at + k, ..q }
 }
 
 // q: the place where a record ends.
@@ -83,36 +72,31 @@ pub fn after(q: Place) -> Place
     ensures { result ≡ after_of q }
 {
     Place {
-        file: q.file,
         number: q.number + 1,
-        start: q.start,
-        at: q.at,
+        ..q
     }
 }
 
 // g: how the reading went on up to a record's last field.
 // How it goes on after the record.
-pub fn closed(g: Going) -> Going
+pub fn closed(g: Result<Place, Stop>) -> Result<Place, Stop>
     requires { Numbered g }
     ensures { result ≡ closed_of g }
 {
-    match g {
-        Going::Off(x) => Going::Off(x),
-        Going::On(q) => Going::On(after(q)),
-    }
+    g.map(after)
 }
 
 // s: the file. q: the place where its last record ends.
 // How the reading goes on: the file ends there too, or it is refused by 8.
-pub fn finish(s: &[u8], q: Place) -> Going
+pub fn finish(s: &[u8], q: Place) -> Result<Place, Stop>
     ensures { result ≡ finish_of (length s.now) q }
 {
-    let at = q.at;
-    if at == s.len() {
-        return Going::On(q);
+    if q.at == s.len() {
+        Ok(q)
+    } else {
+        Err(Stop {
+            reason: Reason::BytesLeft,
+            place: opened(q),
+        })
     }
-    Going::Off(Stop {
-        code: 8,
-        place: opened(q),
-    })
 }
