@@ -1,56 +1,26 @@
 // The fields of the two files: each a number, and the test that it has to pass.
 #![tactic(auto)]
 
-ghost use Rattle.std.specs.Prelude.{◌≡◌, cond, ◌+◌, ◌^◌, ◌<◌, nat_abs, leb, eqb};
+ghost use Rattle.std.specs.Prelude.{◌≡◌, Bool, ℕ, ◌+◌, ◌^◌, ◌<◌, nat_abs, leb};
 ghost use Rattle.rules.specs.Reader.{mark, field, unless};
 ghost use Rattle.rules.specs.Files.{allowed_prime, one_to, due, shift_in_size, coefficient_test, two's_complement};
-ghost use Rattle.place.specs.Places.{place, taken};
-ghost use Rattle.cursor.specs.Tests.{tested_of};
+ghost use Rattle.place.specs.Places.{place, taken, code};
+ghost use Rattle.number.specs.Widths.{Width};
 
 use layout::{PRIME, SHIFT};
 use number::read_number;
-use place::{Field, Place, Stop};
+use place::{Place, Reason, Stop};
 use primality::is_prime;
 
 // The first number of two bytes that stands for a negative one.
 const NEGATIVE: u32 = 32_768;
-
-// code: a test's code. holds: whether the test is passed.
-// 0 where it is passed, and else the code.
-fn unless(code: u8, holds: bool) -> u8
-    ensures { result ≡ cond holds 0 code }
-{
-    if holds { 0 } else { code }
-}
-
-// a and b: what two tests gave.
-// The first that is not 0, or 0.
-fn first(a: u8, b: u8) -> u8
-    ensures { result ≡ cond (eqb a 0) b a }
-{
-    if a == 0 { b } else { a }
-}
-
-// v: any number. most: the largest of a size.
-// Whether it is at least 1 and at most that.
-fn one_to(v: u32, most: u32) -> bool
-    ensures { result ≡ one_to most v }
-{
-    if 1 <= v {
-        return v <= most;
-    }
-    false
-}
 
 // v: any number.
 // Whether it is an allowed prime.
 fn allowed_prime(v: u32) -> bool
     ensures { result ≡ allowed_prime v }
 {
-    if v <= PRIME {
-        return is_prime(v);
-    }
-    false
+    v <= PRIME && is_prime(v)
 }
 
 // v: any number.
@@ -58,13 +28,7 @@ fn allowed_prime(v: u32) -> bool
 fn magnitude(v: u32) -> u32
     ensures { result ≡ nat_abs (two's_complement v) }
 {
-    if v < NEGATIVE {
-        return v;
-    }
-    if v < 65536 {
-        return 65536 - v;
-    }
-    v - 65536
+    if v < NEGATIVE { v } else { v.abs_diff(65536) }
 }
 
 // v: a number of two bytes.
@@ -74,102 +38,100 @@ pub fn signed16(v: u32) -> i32
     ensures { result ≡ two's_complement v }
 {
     if v < NEGATIVE {
-        return v as i32;
+        v as i32
+    } else {
+        v as i32 - 65536
     }
-    v as i32 - 65536
 }
 
-// q: a field's place. v: its number. next: the place after it. code: what its test gave.
+// s: the file. q: a field's place. width: how many bytes it has: 1, 2 or 4. reason: why it is refused where `test` does not hold of its number.
 // The number and the place after it, or the refusal.
-fn tested(q: Place, v: u32, next: Place, code: u8) -> Field
-    ensures { result ≡ tested_of q v next code }
+fn read_field<F: FnOnce(u32) -> bool>(
+    s: &[u8],
+    q: Place,
+    width: usize,
+    reason: Reason,
+    test: F,
+) -> Result<(u32, Place), Stop>
+    requires one_of { Width width }
+    requires tests { F.IsAlwaysCallable test }
+    ensures { (holds : ℕ → Bool) → ((v : ℕ) (b : Bool) → F.post test v b → b ≡ holds v) → taken result ≡ field width (unless (code reason) holds) s.now (place q) }
 {
-    if code == 0 {
-        return Field::Value(v, next);
+    let (v, next) = read_number(s, q, width)?;
+    if test(v) {
+        Ok((v, next))
+    } else {
+        Err(Stop { reason, place: q })
     }
-    Field::Off(Stop { code, place: q })
 }
 
 // s: the file. q: the place of a record's mark. due: the one that is due, its first byte the low one.
 // The mark and the place after it, or the refusal.
-pub fn read_mark(s: &[u8], q: Place, due: u32) -> Field
+pub fn read_mark(s: &[u8], q: Place, due: u32) -> Result<(u32, Place), Stop>
     ensures { taken result ≡ mark due s.now (place q) }
 {
-    match read_number(s, q, 2) {
-        Field::Off(x) => Field::Off(x),
-        Field::Value(v, next) => tested(q, v, next, unless(2, v == due)),
-    }
+    read_field(s, q, 2, Reason::WrongMark, |v| v == due)
 }
 
 // s: the file. q: the place of a size from 1 on. most: the largest.
 // The size and the place after it, or the refusal.
-pub fn read_size(s: &[u8], q: Place, most: u32) -> Field
+pub fn read_size(s: &[u8], q: Place, most: u32) -> Result<(u32, Place), Stop>
     ensures { taken result ≡ field 1 (unless 3 (one_to most)) s.now (place q) }
 {
-    match read_number(s, q, 1) {
-        Field::Off(x) => Field::Off(x),
-        Field::Value(v, next) => tested(q, v, next, unless(3, one_to(v, most))),
-    }
+    read_field(s, q, 1, Reason::WrongSize, |v| 1 <= v && v <= most)
 }
 
 // s: the file. q: the place of a count, which may be 0. most: the largest.
 // The count and the place after it, or the refusal.
-pub fn read_count(s: &[u8], q: Place, most: u32) -> Field
+pub fn read_count(s: &[u8], q: Place, most: u32) -> Result<(u32, Place), Stop>
     ensures { taken result ≡ field 1 (unless 3 (λ L. leb L most)) s.now (place q) }
 {
-    match read_number(s, q, 1) {
-        Field::Off(x) => Field::Off(x),
-        Field::Value(v, next) => tested(q, v, next, unless(3, v <= most)),
-    }
+    read_field(s, q, 1, Reason::WrongSize, |v| v <= most)
 }
 
 // s: the file. q: the place of a row or column number. i: the one that is due.
 // The number and the place after it, or the refusal.
-pub fn read_due(s: &[u8], q: Place, i: u32) -> Field
+pub fn read_due(s: &[u8], q: Place, i: u32) -> Result<(u32, Place), Stop>
     ensures { taken result ≡ field 1 (due i) s.now (place q) }
 {
-    match read_number(s, q, 1) {
-        Field::Off(x) => Field::Off(x),
-        Field::Value(v, next) => tested(q, v, next, unless(5, v == i)),
-    }
+    read_field(s, q, 1, Reason::WrongNumber, |v| v == i)
 }
 
 // s: the file. q: the place of a shift.
 // The number of its two bytes and the place after it, or the refusal.
-pub fn read_shift(s: &[u8], q: Place) -> Field
+pub fn read_shift(s: &[u8], q: Place) -> Result<(u32, Place), Stop>
     ensures { taken result ≡ field 2 (unless 3 shift_in_size) s.now (place q) }
 {
-    match read_number(s, q, 2) {
-        Field::Off(x) => Field::Off(x),
-        Field::Value(v, next) => tested(q, v, next, unless(3, magnitude(v) <= SHIFT)),
-    }
+    read_field(s, q, 2, Reason::WrongSize, |v| magnitude(v) <= SHIFT)
 }
 
 // s: the file. q: the place of the k-th coefficient modulo p, counted from 0, of an entry of `length`; with a length of 0, of no entry.
-// The coefficient and the place after it, or the refusal. The entry's last coefficient has a branch of its own: with one code for both, the
-// compiler computes both tests for each.
-pub fn read_coefficient(s: &[u8], q: Place, p: u32, length: usize, k: usize) -> Field
+// The coefficient and the place after it, or the refusal. The test for 0, of the entry's last coefficient, stands apart: with one test for both,
+// the compiler computes both for each coefficient.
+pub fn read_coefficient(
+    s: &[u8],
+    q: Place,
+    p: u32,
+    length: usize,
+    k: usize,
+) -> Result<(u32, Place), Stop>
     requires { k + 1 < 2 ^ 64 }
     ensures { taken result ≡ field 4 (coefficient_test p length k) s.now (place q) }
 {
-    match read_number(s, q, 4) {
-        Field::Off(x) => Field::Off(x),
-        Field::Value(v, next) => {
-            if k + 1 == length {
-                return tested(q, v, next, first(unless(6, v < p), unless(7, v != 0)));
-            }
-            tested(q, v, next, unless(6, v < p))
-        }
+    let (v, next) = read_field(s, q, 4, Reason::NotBelowPrime, |v| v < p)?;
+    if k + 1 == length && v == 0 {
+        return Err(Stop {
+            reason: Reason::LastIsZero,
+            place: q,
+        });
     }
+    Ok((v, next))
 }
 
 // s: the file. q: the place of the prime.
 // The prime and the place after it, or the refusal.
-pub fn read_prime(s: &[u8], q: Place) -> Field
+pub fn read_prime(s: &[u8], q: Place) -> Result<(u32, Place), Stop>
     ensures { taken result ≡ field 4 (unless 4 allowed_prime) s.now (place q) }
 {
-    match read_number(s, q, 4) {
-        Field::Off(x) => Field::Off(x),
-        Field::Value(v, next) => tested(q, v, next, unless(4, allowed_prime(v))),
-    }
+    read_field(s, q, 4, Reason::WrongPrime, allowed_prime)
 }

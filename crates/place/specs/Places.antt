@@ -1,10 +1,13 @@
 -- The code's places and refusals as those of the rules.
---   place, code, refusal     the code's place, reason and refusal
+--   place, code, refusal     the code's place, reason and refusal; code_least         no code is 0
 --   Field, taken             what one field gives
 --   Going, going             what several fields give, with what they left in the room lent
+--   same_error               what a `?` hands on
 --   place_one, refusal_one, taken_one    one of the code for each of the rules
-use Rattle.std.specs.Prelude.{◌≡◌, refl, cond, ℕ, ◌+◌, ◌<◌, eqb, Result as Outcome, Ok, Err}
-use Rattle.std.proofs.Common.{sym, ap, ◌∙◌}
+use Rattle.std.specs.Prelude.{◌≡◌, refl, cond, ℕ, ◌+◌, ◌<◌, ◌≤◌, eqb, Result as Outcome, Ok, Err}
+use Rattle.std.specs.Result.{IsErrAnd}
+use Rattle.std.proofs.lemmas.Result.{err_from_is_err_and}
+use Rattle.std.proofs.Common.{sym, ap, ◌∙◌, arith}
 use Rattle.rules.specs.Reader.{Place, Refusal, Result, refused, got}
 use Rattle.laws.specs.ReaderLaws.{got_not_refused}
 use Rattle.place.specs.declared.Place.{Place as Spot}
@@ -25,6 +28,16 @@ code WrongNumber = 5
 code NotBelowPrime = 6
 code LastIsZero = 7
 code BytesLeft = 8
+
+pub code_least : (r : Reason) → 1 ≤ code r
+code_least CutShort = omega arith
+code_least WrongMark = omega arith
+code_least WrongSize = omega arith
+code_least WrongPrime = omega arith
+code_least WrongNumber = omega arith
+code_least NotBelowPrime = omega arith
+code_least LastIsZero = omega arith
+code_least BytesLeft = omega arith
 
 abbrev pub refusal : Stop → Refusal
 refusal x = record { code = code x.reason; place = place x.place }
@@ -108,3 +121,7 @@ taken_one (Ok f) (Ok g) e =
 taken_one (Ok f) (Err y) e = got_not_refused (sym e) refl
 taken_one (Err x) (Ok g) e = got_not_refused e refl
 taken_one (Err x) (Err y) e = ap Err (refusal_one x y (refused_one e))
+
+-- A `?` hands on the refusal that it was given.
+pub same_error : {A : Type 0} {r : Outcome A Stop} {x : Stop} → IsErrAnd r (λ y. y ≡ x) → r ≡ Err x
+same_error {r = r} h = let (y, is, same) = err_from_is_err_and r h in is ∙ ap Err same

@@ -12,6 +12,6 @@ returns-then-v-le-PRIME c =
     c.is_prime.ensures
     ∙ sym (ap (λ (b : Bool). elim b [ true ↦ is_prime c.args.v | false ↦ false ]) (le-leb _ _ c.if-v-le-PRIME.true))
 
-pub returns : goal.returns
+pub returns-else-v-le-PRIME : goal.returns-else-v-le-PRIME
 unfolding largest_prime
-returns c = sym (ap (λ (b : Bool). elim b [ true ↦ is_prime c.args.v | false ↦ false ]) (lt-leb _ _ c.if-v-le-PRIME.false))
+returns-else-v-le-PRIME c = lt-leb _ _ c.if-v-le-PRIME.false ∙ sym (ap (λ (b : Bool). elim b [ true ↦ is_prime c.args.v | false ↦ false ]) (lt-leb _ _ c.if-v-le-PRIME.false))

@@ -1,27 +1,25 @@
-use mathlib.Core.Bool.{cond}
-use mathlib.Core.Logic.{inr}
-use mathlib.Core.Path.{refl, sym, ap, ap₂, ◌∙◌}
-use Prim.Native.Nat.{ℕ}
-use lib.Dec.{eqb}
-use Rattle.place.specs.Places.{taken}
-use Rattle.cursor.specs.Fields.{any_refused, tested_field, coefficient_last, coefficient_other}
+-- `cursor::read_coefficient` meets its contract. Assumes nothing.
+use Rattle.std.proofs.Common.{sym, ap, ◌∙◌, ltb, rules}
+use Rattle.place.specs.Places.{taken, same_error}
+use Rattle.cursor.specs.Fields.{coefficient_refused, coefficient_passed, coefficient_zero}
 use Rattle.cursor.proofs.read_coefficient.Goals as goal
+use Rattle.cursor.proofs.read_coefficient.Goals.{else-k-length-via-then-k-length+else-v-eq0, else-k-length-via-else-k-length}
 
-pub read_number-requires : goal.read_number-requires
-read_number-requires c = inr (inr refl)
+pub returns-in_err-v : goal.returns-in_err-v
+returns-in_err-v c =
+    ap taken (same_error c.from_residual.ensures.1)
+    ∙ sym (coefficient_refused _ _ _ _ _ (sym (c.in_err-v.ensures (λ v. ltb v c.args.p) (λ v b post. search rules))))
 
-pub returns-then-k-length : goal.returns-then-k-length
-returns-then-k-length c =
-    ap taken c.tested.ensures
-    ∙ tested_field _ _ _ _ _ _ _ (sym c.read_number.ensures ∙ ap taken c.in-Value.is)
-    (c.first.ensures
-    ∙ ap₂ (λ (x y : ℕ). cond {A = ℕ} (eqb x 0) y x) c.unless.ensures c.unless-then-k-length.ensures
-    ∙ coefficient_last _ _ _ _ c.if-k-length.true)
+pub returns-then-v-eq0 : goal.returns-then-v-eq0
+returns-then-v-eq0 c =
+    sym
+    (coefficient_zero _ _ _ _ _ (sym (c.in_ok-v.ensures (λ v. ltb v c.args.p) (λ v b post. search rules))) c.if-k-length.true c.if-v-eq0.true)
 
-pub returns-in-Off : goal.returns-in-Off
-returns-in-Off c = sym (any_refused _ _ _ _ (sym c.read_number.ensures ∙ ap taken c.in-Off.is))
-
-pub returns-else-k-length : goal.returns-else-k-length
-returns-else-k-length c =
-    ap taken c.tested-in-Value.ensures
-    ∙ tested_field _ _ _ _ _ _ _ (sym c.read_number.ensures ∙ ap taken c.in-Value.is) (c.unless-in-Value.ensures ∙ coefficient_other _ _ _ _ c.if-k-length.false)
+pub returns : goal.returns
+returns c =
+    sym
+    (coefficient_passed _ _ _ _ _ (sym (c.in_ok-v.ensures (λ v. ltb v c.args.p) (λ v b post. search rules)))
+    (λ l z. elim c.else-k-length.branch [
+      | else-k-length-via-then-k-length+else-v-eq0 w ↦ w.if-v-eq0.false z
+      | else-k-length-via-else-k-length w ↦ w.if-k-length.false l
+    ]))

@@ -9,12 +9,9 @@ use Rattle.cursor.proofs.signed16.Goals as goal
 pub returns-then-v-lt-NEGATIVE : goal.returns-then-v-lt-NEGATIVE
 returns-then-v-lt-NEGATIVE c = to_z_pos w32 (omega arith) ∙ sym (complement_low _ c.if-v-lt-NEGATIVE.true)
 
-pub overflow_sub-result : goal.overflow_sub-result
-overflow_sub-result c = search rules
-
-pub returns : goal.returns
-returns c =
-    to_z-of_z (overflow_sub-result c)
+pub returns-else-v-lt-NEGATIVE : goal.returns-else-v-lt-NEGATIVE
+returns-else-v-lt-NEGATIVE c =
+    to_z-of_z {w = w32} (search rules)
     ∙ ap (λ (z : ℤ). z -ℤ pos 65536) (to_z_pos w32 {n = c.args.v} (omega arith))
     ∙ less_65536 _ c.requires
     ∙ sym (complement_mid _ c.if-v-lt-NEGATIVE.false c.requires)
