@@ -2,7 +2,7 @@
 --   place, code, refusal     the code's place, reason and refusal; code_least         no code is 0
 --   Field, taken             what one field gives
 --   Going, going             what several fields give, with what they left in the room lent
---   same_error               what a `?` hands on
+--   error_is, going_off      what a `?` hands on
 --   place_one, refusal_one, taken_one    one of the code for each of the rules
 use Rattle.std.specs.Prelude.{◌≡◌, refl, cond, ℕ, ◌+◌, ◌<◌, ◌≤◌, eqb, Result as Outcome, Ok, Err}
 use Rattle.std.specs.Result.{IsErrAnd}
@@ -123,5 +123,8 @@ taken_one (Err x) (Ok g) e = got_not_refused e refl
 taken_one (Err x) (Err y) e = ap Err (refusal_one x y (refused_one e))
 
 -- A `?` hands on the refusal that it was given.
-pub same_error : {A : Type 0} {r : Outcome A Stop} {x : Stop} → IsErrAnd r (λ y. y ≡ x) → r ≡ Err x
-same_error {r = r} h = let (y, is, same) = err_from_is_err_and r h in is ∙ ap Err same
+pub error_is : {A : Type 0} {r : Outcome A Stop} {x : Stop} → IsErrAnd r (λ y. y ≡ x) → r ≡ Err x
+error_is {r = r} h = let (y, is, same) = err_from_is_err_and r h in is ∙ ap Err same
+
+pub going_off : {A : Type 0} (a : A) {r : Going} {x : Stop} → r ≡ Err x → going r a ≡ refused (refusal x)
+going_off a e = ap (λ (g : Going). going g a) e

@@ -10,22 +10,20 @@ use Rattle.laws.specs.ReaderLaws.{field_got}
 use Rattle.laws.specs.ByteNumbers.{AllBytes, number_at_below}
 use Rattle.place.specs.declared.Place.{Place as Spot}
 use Rattle.place.specs.declared.Stop.{Stop}
-use Rattle.place.specs.declared.Field.{Field}
-use Rattle.place.specs.declared.Field.TheVariants.{Value, Off}
-use Rattle.place.specs.Places.{place, refusal, taken}
+use Rattle.place.specs.Places.{place, refusal, taken, Field}
 use Rattle.storing.specs.Storing.{into}
 
 module _ {B : Type 0} (g : ℤ → B) (s : List ℕ) (p : Place) {r : Field} (gave : taken r ≡ field 2 (unless 3 shift_in_size) s p) where
-  pub shift_off : {x : Stop} → r ≡ Off x → into g (shift_reader s p) ≡ refused (refusal x)
+  pub shift_off : {x : Stop} → r ≡ Err x → into g (shift_reader s p) ≡ refused (refusal x)
   unfolding into next
   shift_off e = ap (λ (m : Result ℕ). into g (next m (λ v q. got (two's_complement v) q))) (sym gave ∙ ap taken e)
 
-  pub shift_on : {v : ℕ} {q : Spot} {z : ℤ} → r ≡ Value v q → z ≡ two's_complement v → into g (shift_reader s p) ≡ got (g z) (place q)
+  pub shift_on : {v : ℕ} {q : Spot} {z : ℤ} → r ≡ Ok (v, q) → z ≡ two's_complement v → into g (shift_reader s p) ≡ got (g z) (place q)
   unfolding into next
   shift_on {q = q} e f =
       ap (λ (m : Result ℕ). into g (next m (λ v q. got (two's_complement v) q))) (sym gave ∙ ap taken e) ∙ ap (λ (z : ℤ). got (g z) (place q)) (sym f)
 
 -- Two bytes give a number below 65,536.
-pub two_bytes : (test : ℕ → ℕ) (s : List ℕ) (p : Place) {r : Field} {v : ℕ} {q : Spot} → AllBytes s → taken r ≡ field 2 test s p → r ≡ Value v q → v < 65_536
+pub two_bytes : (test : ℕ → ℕ) (s : List ℕ) (p : Place) {r : Field} {v : ℕ} {q : Spot} → AllBytes s → taken r ≡ field 2 test s p → r ≡ Ok (v, q) → v < 65_536
 two_bytes test s p {v = v} bytes gave e =
     omega (arith, ((field_got 2 test s p v _).0 (sym gave ∙ ap taken e)).1, number_at_below 2 s p.at bytes)

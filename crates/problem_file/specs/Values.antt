@@ -1,12 +1,10 @@
 -- A problem that the rules read, as the code's structs.
 --   body_reader              what follows the `PR` record
---   head_value, columns_value        a problem that was read, in arrays
---   problem_value            a problem that was read or refused, as the code's `ReadProblem`
---   begun_off, begun_on, with_arrays         a problem without its arrays, and with them
---   with_columns             a problem without the coefficients of F, and with them
+--   head_value, columns_value, problem_arrays        a problem that was read, in arrays
+--   problem_value            a problem that was read or refused, as the code's answer and what it leaves in the struct lent
 --   problem_from, head_refused, head_given        a problem is its `PR` record and what follows
 --   problem_refused          a refusal's offsets fit 32 bits
-use Rattle.std.specs.Prelude.{◌≡◌, true, false, List, ℕ, ℤ, pos, get_or}
+use Rattle.std.specs.Prelude.{◌≡◌, List, ℕ, ℤ, pos, get_or, Result as Outcome, Ok, Err}
 use Rattle.std.proofs.Math.Path.{sym}
 use Rattle.std.proofs.Common.{◌∙◌, arith}
 use Rattle.rules.specs.Sizes.{most_rows}
@@ -18,13 +16,13 @@ use Rattle.laws.specs.Soundness.{sound_problem}
 use Rattle.laws.specs.Lengths.{longest_problem_is}
 use Rattle.layout.specs.Flat.{filled, column_coefficients}
 use Rattle.claim.specs.declared.Head.{Head}
-use Rattle.refusal.specs.Narrow.{Narrow, from_front, refusal_value, no_refusal}
+use Rattle.claim.specs.declared.Problem.{Problem as ProblemArrays}
+use Rattle.claim.specs.Empty.{empty_problem}
+use Rattle.verdict.specs.declared.Refusal.{Refusal as Refused}
+use Rattle.refusal.specs.Narrow.{Narrow, from_front, refusal_value}
 use Rattle.storing.specs.Flat.{list_into, shifts_into, columns_into}
 use Rattle.storing.specs.Records.{then_refused, then_given}
 use Rattle.storing.specs.Storing.{into, into_next, into_end}
-use Rattle.problem_file.specs.declared.ProblemOutline.{ProblemOutline}
-use Rattle.problem_file.specs.declared.ReadProblem.{ReadProblem}
-use Rattle.problem_file.specs.declared.Begun.{Begun}
 
 -- A problem after its `PR` record: orders, shifts and F, to the file's end.
 unfoldable pub body_reader : (p m n : ℕ) → Reader (List ℕ × List ℤ × List (List (List ℕ)))
@@ -41,30 +39,13 @@ head_value b = head_with b.p b.m b.n (list_into (filled most_rows 0) b.orders) (
 abbrev pub columns_value : Problem → List ℕ
 columns_value b = columns_into (filled column_coefficients 0) b.F
 
--- The code's reading of a problem: what was read, or the refusal; every other number is 0.
-unfoldable pub problem_value : Result Problem → ReadProblem
-problem_value (refused x) =
-    record {
-      ok = false;
-      refusal = refusal_value x;
-      problem = record { head = head_with 0 0 0 (filled most_rows 0) (filled most_rows (pos 0)); f = filled column_coefficients 0 };
-    }
-problem_value (got b q) = record { ok = true; refusal = no_refusal; problem = record { head = head_value b; f = columns_value b } }
+abbrev pub problem_arrays : Problem → ProblemArrays
+problem_arrays b = record { head = head_value b; f = columns_value b }
 
--- A problem without its arrays, refused or read, and with them.
-abbrev pub begun_off : Refusal → Begun
-begun_off x = record { ok = false; refusal = refusal_value x; p = 0; m = 0; n = 0 }
-
-abbrev pub begun_on : (p m n : ℕ) → Begun
-begun_on p m n = record { ok = true; refusal = no_refusal; p = p; m = m; n = n }
-
-abbrev pub with_arrays : Begun → List ℕ → List ℤ → List ℕ → ReadProblem
-with_arrays b orders shifts f =
-    record { ok = b.ok; refusal = b.refusal; problem = record { head = head_with b.p b.m b.n orders shifts; f = f } }
-
--- A problem without the coefficients of F, and with them.
-abbrev pub with_columns : ProblemOutline → List ℕ → ReadProblem
-with_columns b f = record { ok = b.ok; refusal = b.refusal; problem = record { head = b.head; f = f } }
+-- The code's reading of a problem, and where it goes: what was read, or the refusal and 0 everywhere.
+unfoldable pub problem_value : Result Problem → Outcome (Unit {0}) Refused × ProblemArrays
+problem_value (refused x) = (Err (refusal_value x), empty_problem)
+problem_value (got b q) = (Ok tt, problem_arrays b)
 
 -- A problem from the numbers of its `PR` record and what follows.
 abbrev pub problem_from : (p m n : ℕ) → List ℕ × List ℤ × List (List (List ℕ)) → Problem
@@ -72,12 +53,12 @@ problem_from p m n b = record { p = p; m = m; n = n; orders = b.0; shifts = b.1;
 
 module _ (s : List ℕ) where
   -- A problem whose `PR` record is refused.
-  pub head_refused : {x : Refusal} → PR s (front 0) ≡ refused x → read_problem s ≡ refused x
+  pub head_refused : {x : Refusal} → refused x ≡ PR s (front 0) → read_problem s ≡ refused x
   unfolding read_problem problem_reader
   head_refused e = then_refused _ e
 
   -- And one whose `PR` record is given.
-  pub head_given : (p m n : ℕ) {q : Place} → PR s (front 0) ≡ got (p, m, n) q → read_problem s ≡ into (problem_from p m n) (body_reader p m n s q)
+  pub head_given : (p m n : ℕ) {q : Place} → got (p, m, n) q ≡ PR s (front 0) → read_problem s ≡ into (problem_from p m n) (body_reader p m n s q)
   unfolding read_problem problem_reader body_reader
   head_given p m n {q} e =
       then_given _ e

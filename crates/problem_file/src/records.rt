@@ -10,9 +10,10 @@ ghost use Rattle.storing.specs.Storing.{into};
 ghost use Rattle.storing.specs.Flat.{list_into, shifts_into, put_column, columns_into, body_into};
 ghost use Rattle.problem_file.specs.Values.{body_reader};
 
+use claim::{Head, Problem};
 use cursor::{read_due, read_mark, read_shift, read_size, signed16};
 use layout::{ORDER, column_place};
-use place::{Field, Going, Place, closed, finish, opened};
+use place::{Place, Stop, closed, finish, opened};
 use runs::block;
 
 // The marks, low byte first.
@@ -24,140 +25,101 @@ const FC: u32 = 0x46 + 256 * 0x43;
 
 // s: the file. q: the place of the first of n orders. out: where they go.
 // How the reading goes on after them.
-fn order_list(s: &[u8], q: Place, n: usize, out: &mut [usize]) -> Going
+fn order_list(s: &[u8], q: Place, n: usize, out: &mut [usize]) -> Result<Place, Stop>
     requires { n ≤ length out.old }
     ensures { going result out.new ≡ into (list_into out.old) (each n (λ j. field 1 (unless 3 (one_to most_order))) s.now (place q)) }
 {
     let mut here = q;
-    let mut j = 0;
-    while j < n {
-        match read_size(s, here, ORDER as u32) {
-            Field::Off(x) => return Going::Off(x),
-            Field::Value(v, next) => {
-                out[j] = v as usize;
-                here = next;
-            }
-        }
-        j += 1;
+    for j in 0..n {
+        let (v, next) = read_size(s, here, ORDER as u32)?;
+        out[j] = v as usize;
+        here = next;
     }
-    Going::On(here)
+    Ok(here)
 }
 
 // s: the file. q: the place of the first of m shifts. out: where they go.
 // How the reading goes on after them.
-fn shift_list(s: &[u8], q: Place, m: usize, out: &mut [i32]) -> Going
+fn shift_list(s: &[u8], q: Place, m: usize, out: &mut [i32]) -> Result<Place, Stop>
     requires { m ≤ length out.old }
     ensures { going result out.new ≡ into (shifts_into out.old) (each m (λ i. shift_reader) s.now (place q)) }
 {
     let mut here = q;
-    let mut i = 0;
-    while i < m {
-        match read_shift(s, here) {
-            Field::Off(x) => return Going::Off(x),
-            Field::Value(v, next) => {
-                out[i] = signed16(v);
-                here = next;
-            }
-        }
-        i += 1;
+    for i in 0..m {
+        let (v, next) = read_shift(s, here)?;
+        out[i] = signed16(v);
+        here = next;
     }
-    Going::On(here)
+    Ok(here)
 }
 
 // s: the file. q: the place of the `OR` record. n: the columns. out: where their orders go.
 // How the reading goes on after the record.
-fn read_orders(s: &[u8], q: Place, n: usize, out: &mut [usize]) -> Going
+fn read_orders(s: &[u8], q: Place, n: usize, out: &mut [usize]) -> Result<Place, Stop>
     requires { (q.number < 65535) × (n ≤ length out.old) }
     ensures { going result out.new ≡ into (list_into out.old) (Files.OR n s.now (place q)) }
 {
-    match read_mark(s, opened(q), OR) {
-        Field::Off(x) => Going::Off(x),
-        Field::Value(_, q1) => closed(order_list(s, q1, n, out)),
-    }
+    let (_, q) = read_mark(s, opened(q), OR)?;
+    closed(order_list(s, q, n, out))
 }
 
 // s: the file. q: the place of the `SH` record. m: the rows. out: where their shifts go.
 // How the reading goes on after the record.
-fn read_shifts(s: &[u8], q: Place, m: usize, out: &mut [i32]) -> Going
+fn read_shifts(s: &[u8], q: Place, m: usize, out: &mut [i32]) -> Result<Place, Stop>
     requires { (q.number < 65535) × (m ≤ length out.old) }
     ensures { going result out.new ≡ into (shifts_into out.old) (Files.SH m s.now (place q)) }
 {
-    match read_mark(s, opened(q), SH) {
-        Field::Off(x) => Going::Off(x),
-        Field::Value(_, q1) => closed(shift_list(s, q1, m, out)),
-    }
+    let (_, q) = read_mark(s, opened(q), SH)?;
+    closed(shift_list(s, q, m, out))
 }
 
-// s: the file. q: the place of the `FC` record of column j: m rows of d coefficients modulo p. out: where they go.
+// s: the file. q: the place of the `FC` record of column j. head: the problem's numbers: the record has m rows of as many coefficients modulo p
+// as the column's order says. out: where they go.
 // How the reading goes on after the record.
-fn read_column(s: &[u8], q: Place, p: u32, m: usize, d: usize, j: usize, out: &mut [u32]) -> Going
-    requires { (q.number < 65535) × (m ≤ most_rows) × (d ≤ most_order) × (j < most_rows) × (length out.old ≡ column_coefficients) }
-    ensures { going result out.new ≡ into (put_column out.old j) (Files.FC p m d j s.now (place q)) }
+fn read_column(s: &[u8], q: Place, head: &Head, j: usize, out: &mut [u32]) -> Result<Place, Stop>
+    requires { (q.number < 65535) × (head.now.m ≤ most_rows) × (get_or head.now.orders j 0 ≤ most_order) × (j < most_rows) × (length out.old ≡ column_coefficients) }
+    ensures { going result out.new ≡ into (put_column out.old j) (Files.FC head.now.p head.now.m (get_or head.now.orders j 0) j s.now (place q)) }
 {
-    match read_mark(s, opened(q), FC) {
-        Field::Off(x) => Going::Off(x),
-        Field::Value(_, q1) => match read_due(s, q1, j as u32) {
-            Field::Off(x) => Going::Off(x),
-            Field::Value(_, q2) => closed(block(s, q2, p, m, d, out, column_place(0, j, 0), ORDER)),
-        },
-    }
+    let (_, q) = read_mark(s, opened(q), FC)?;
+    let (_, q) = read_due(s, q, j as u32)?;
+    closed(block(
+        s,
+        q,
+        head.p,
+        head.m,
+        head.orders[j],
+        out,
+        column_place(0, j, 0),
+        ORDER,
+    ))
 }
 
-// s: the file. q: the place of the first of n `FC` records of m rows modulo p. orders: the columns' orders. out: where the coefficients go.
-// How the reading goes on after them.
-fn read_columns(
-    s: &[u8],
-    q: Place,
-    p: u32,
-    m: usize,
-    n: usize,
-    orders: &[usize],
-    out: &mut [u32],
-) -> Going
-    requires n_bound { (q.number + n < 65535) × (m ≤ most_rows) × (n ≤ most_rows) × (n ≤ length orders.now) }
-    requires by_index { (j : ℕ) → get_or orders.now j 0 ≤ most_order }
+// s: the file. q: the place of the first `FC` record. head: the problem's numbers. out: where the coefficients of F go.
+// How the reading goes on after the records, one for each column.
+fn read_columns(s: &[u8], q: Place, head: &Head, out: &mut [u32]) -> Result<Place, Stop>
+    requires n_bound { (q.number + head.now.n < 65535) × (head.now.m ≤ most_rows) × (head.now.n ≤ most_rows) }
+    requires by_index { (j : ℕ) → get_or head.now.orders j 0 ≤ most_order }
     requires out_len { length out.old ≡ column_coefficients }
-    ensures { going result out.new ≡ into (columns_into out.old) (each n (λ j. Files.FC p m (get_or orders.now j 0) j) s.now (place q)) }
+    ensures { going result out.new ≡ into (columns_into out.old) (each head.now.n (λ j. Files.FC head.now.p head.now.m (get_or head.now.orders j 0) j) s.now (place q)) }
 {
     let mut here = q;
-    let mut j = 0;
-    while j < n {
-        match read_column(s, here, p, m, orders[j], j, out) {
-            Going::Off(x) => return Going::Off(x),
-            Going::On(next) => {
-                here = next;
-            }
-        }
-        j += 1;
+    for j in 0..head.n {
+        here = read_column(s, here, head, j, out)?;
     }
-    Going::On(here)
+    Ok(here)
 }
 
-// s: the file. q: the place after its `PR` record, which holds p, m and n. orders, shifts and out: where orders, shifts and coefficients go.
-// How the reading goes on, which is at the file's end.
-pub(crate) fn read_body(
-    s: &[u8],
-    q: Place,
-    p: u32,
-    m: usize,
-    n: usize,
-    orders: &mut [usize],
-    shifts: &mut [i32],
-    out: &mut [u32],
-) -> Going
-    requires number_bound { (q.number < 2) × (m ≤ most_rows) × (n ≤ most_rows) }
-    requires orders_value { orders.old ≡ filled most_rows 0 }
-    requires shifts_len { (length shifts.old ≡ most_rows) × (length out.old ≡ column_coefficients) }
-    ensures { going result (orders.new, shifts.new, out.new) ≡ into (body_into (orders.old, shifts.old, out.old)) (body_reader p m n s.now (place q)) }
+// s: the file. q: the place after its `PR` record. problem: has what that record holds; where the rest goes, with orders all 0.
+// How the reading goes on, which is at the file's end. What the `PR` record holds stays.
+pub(crate) fn read_body(s: &[u8], q: Place, problem: &mut Problem) -> Result<Place, Stop>
+    requires number_bound { (q.number < 2) × (problem.old.head.m ≤ most_rows) × (problem.old.head.n ≤ most_rows) }
+    requires orders_value { problem.old.head.orders ≡ filled most_rows 0 }
+    ensures kept { (problem.new.head.p ≡ problem.old.head.p) × (problem.new.head.m ≡ problem.old.head.m) × (problem.new.head.n ≡ problem.old.head.n) }
+    ensures read { going result (problem.new.head.orders, problem.new.head.shifts, problem.new.f) ≡ into (body_into (problem.old.head.orders, problem.old.head.shifts, problem.old.f)) (body_reader problem.old.head.p problem.old.head.m problem.old.head.n s.now (place q)) }
 {
-    match read_orders(s, q, n, orders) {
-        Going::Off(x) => Going::Off(x),
-        Going::On(q1) => match read_shifts(s, q1, m, shifts) {
-            Going::Off(x) => Going::Off(x),
-            Going::On(q2) => match read_columns(s, q2, p, m, n, &*orders, out) {
-                Going::Off(x) => Going::Off(x),
-                Going::On(q3) => finish(s, q3),
-            },
-        },
-    }
+    let head = &mut problem.head;
+    let q = read_orders(s, q, head.n, &mut head.orders)?;
+    let q = read_shifts(s, q, head.m, &mut head.shifts)?;
+    let q = read_columns(s, q, &problem.head, &mut problem.f)?;
+    finish(s, q)
 }

@@ -7,8 +7,7 @@ use Rattle.std.proofs.Common.{◌∙◌}
 use Prim.Native.Nat.{ℕ, ◌+◌, ◌*◌}
 use Rattle.rules.specs.Reader.{Place, Reader, field, each}
 use Rattle.rules.specs.Files.{coefficient_test, residue}
-use Rattle.place.specs.declared.Going.{Going}
-use Rattle.place.specs.Places.{going}
+use Rattle.place.specs.Places.{Going, going}
 use Rattle.cursor.specs.Fields.{residue_field}
 use Rattle.storing.specs.Storing.{into}
 use Rattle.storing.specs.Flat.{put_from, run_into, put_row, block_into}

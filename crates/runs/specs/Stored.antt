@@ -3,7 +3,7 @@
 --   steps                    so many steps, each from where the one before left the reading and the room
 --   Reached                  a loop's invariant: the steps that are left do the whole work; off, on, through: a turn that is refused, one that
 --                            is not, and the end
---   field_off, field_on, stored, steps_off, steps_on       what a callee gave, as a turn's result
+--   store_off, store_on, stored, stored_off       what a callee gave, as a turn's result
 --   reading                  what was read: storing_reads, steps_read, reading_going
 --   going_one                one answer of the code for each of the rules
 use Rattle.std.specs.Prelude.{◌≡◌, List}
@@ -13,13 +13,9 @@ use Prim.Native.Nat.{ℕ, zero, suc, ◌+◌, ◌-◌, ◌≤◌, ◌<◌}
 use native.Mathlib.Omega.{arith}
 use Rattle.rules.specs.Reader.{Place, Refusal, Result, refused, got, Reader, next, each}
 use Rattle.laws.specs.ReaderLaws.{got_not_refused}
-use Rattle.place.specs.declared.Place.{Place as Spot}
 use Rattle.place.specs.declared.Stop.{Stop}
-use Rattle.place.specs.declared.Field.{Field}
-use Rattle.place.specs.declared.Field.TheVariants.{Value, Off as Field_Off}
-use Rattle.place.specs.declared.Going.{Going}
-use Rattle.place.specs.declared.Going.TheVariants.{On, Off}
-use Rattle.place.specs.Places.{place, refusal, taken, going, place_one, refusal_one}
+use Rattle.std.specs.Prelude.{Ok, Err}
+use Rattle.place.specs.Places.{refusal, going, place_one, refusal_one, Going}
 use Rattle.storing.specs.Storing.{into, pour, rest, rest_whole}
 
 -- How the reading goes on, beside the room.
@@ -80,25 +76,21 @@ reading (refused x) st = refused x
 reading (got u q) st = got st q
 
 -- A field's answer, stored.
-module _ {S : Type 0} (g : ℕ → S) (st : S) {r : Field} {m : Result ℕ} (gave : taken r ≡ m) where
-  pub field_off : {x : Stop} → r ≡ Field_Off x → ◌≡◌ {A = Left S} (storing g st m) (refused (refusal x), st)
+module _ {A S : Type 0} (g : A → S) (st : S) {m : Result A} where
+  pub store_off : {x : Refusal} → refused x ≡ m → ◌≡◌ {A = Left S} (storing g st m) (refused x, st)
   unfolding storing
-  field_off e = ap (storing g st) (sym gave ∙ ap taken e)
+  store_off e = ap (storing g st) (sym e)
 
-  pub field_on : {v : ℕ} {q : Spot} → r ≡ Value v q → ◌≡◌ {A = Left S} (storing g st m) (got tt (place q), g v)
+  pub store_on : {a : A} {q : Place} → got a q ≡ m → ◌≡◌ {A = Left S} (storing g st m) (got tt q, g a)
   unfolding storing
-  field_on e = ap (storing g st) (sym gave ∙ ap taken e)
+  store_on e = ap (storing g st) (sym e)
 
 -- The answer of steps, beside the room.
 abbrev pub stored : {S : Type 0} → Going → S → Left S
 stored g st = (going g tt, st)
 
-module _ {S : Type 0} (st : S) {g : Going} {m : Left S} (gave : stored g st ≡ m) where
-  pub steps_off : {x : Stop} → g ≡ Off x → ◌≡◌ {A = Left S} m (refused (refusal x), st)
-  steps_off e = sym gave ∙ ap (λ (h : Going). stored h st) e
-
-  pub steps_on : {q : Spot} → g ≡ On q → ◌≡◌ {A = Left S} m (got tt (place q), st)
-  steps_on e = sym gave ∙ ap (λ (h : Going). stored h st) e
+pub stored_off : {S : Type 0} (st : S) {g : Going} {x : Stop} → g ≡ Err x → ◌≡◌ {A = Left S} (stored g st) (refused (refusal x), st)
+stored_off st e = ap (λ (g : Going). stored g st) e
 
 pub storing_reads : {A S : Type 0} (g : A → S) (st : S) (m : Result A) → reading (storing g st m).0 (storing g st m).1 ≡ into g m
 unfolding storing reading into
@@ -130,8 +122,8 @@ module _ {A S : Type 0} (put : S → ℕ → A → S) (r : ℕ → Reader A) (s 
 -- The code's answer beside its room.
 pub reading_going : {S : Type 0} (g : Going) (st : S) → reading (going g tt) st ≡ going g st
 unfolding reading
-reading_going (On q) st = refl
-reading_going (Off x) st = refl
+reading_going (Ok q) st = refl
+reading_going (Err x) st = refl
 
 got_place : {p q : Place} → ◌≡◌ {A = Result (Unit {0})} (got tt p) (got tt q) → p ≡ q
 got_place e = cc
@@ -140,7 +132,7 @@ refused_one : {x y : Refusal} → ◌≡◌ {A = Result (Unit {0})} (refused x) 
 refused_one e = cc
 
 pub going_one : (g h : Going) → going {A = Unit {0}} g tt ≡ going h tt → g ≡ h
-going_one (On q) (On r) e = ap On (place_one q r (got_place e))
-going_one (On q) (Off y) e = got_not_refused (sym e) refl
-going_one (Off x) (On r) e = got_not_refused e refl
-going_one (Off x) (Off y) e = ap Off (refusal_one x y (refused_one e))
+going_one (Ok q) (Ok r) e = ap Ok (place_one q r (got_place e))
+going_one (Ok q) (Err y) e = got_not_refused (sym e) refl
+going_one (Err x) (Ok r) e = got_not_refused e refl
+going_one (Err x) (Err y) e = ap Err (refusal_one x y (refused_one e))

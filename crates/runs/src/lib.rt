@@ -7,7 +7,7 @@ ghost use Rattle.runs.specs.Stored.{stored};
 ghost use Rattle.runs.specs.Rows.{run_stored, block_stored};
 
 use cursor::read_coefficient;
-use place::{Field, Going, Place};
+use place::{Place, Stop};
 
 // s: the file. q: the place of the first of `count` coefficients modulo p. last: the count at which one may not be 0, or 0. out: where they go, from `base` on.
 // How the reading goes on after them. After a refusal what was read before stands there.
@@ -19,23 +19,17 @@ pub fn run(
     last: usize,
     out: &mut [u32],
     base: usize,
-) -> Going
+) -> Result<Place, Stop>
     requires { base + count ≤ length out.old }
     ensures { stored result out.new ≡ run_stored p last count base s.now out.old (place q) }
 {
     let mut here = q;
-    let mut k = 0;
-    while k < count {
-        match read_coefficient(s, here, p, last, k) {
-            Field::Off(x) => return Going::Off(x),
-            Field::Value(v, next) => {
-                out[base + k] = v;
-                here = next;
-            }
-        }
-        k += 1;
+    for k in 0..count {
+        let (v, next) = read_coefficient(s, here, p, last, k)?;
+        out[base + k] = v;
+        here = next;
     }
-    Going::On(here)
+    Ok(here)
 }
 
 // s: the file. q: the place of the first of `rows` rows of `count` coefficients modulo p. out: where they go, from `base` on, each row `stride` after the one before.
@@ -49,22 +43,13 @@ pub fn block(
     out: &mut [u32],
     base: usize,
     stride: usize,
-) -> Going
+) -> Result<Place, Stop>
     requires { (count ≤ stride) × (base + rows * stride ≤ length out.old) }
     ensures { stored result out.new ≡ block_stored p rows count base stride s.now out.old (place q) }
 {
     let mut here = q;
-    let mut from = base;
-    let mut i = 0;
-    while i < rows {
-        match run(s, here, p, count, 0, out, from) {
-            Going::Off(x) => return Going::Off(x),
-            Going::On(next) => {
-                here = next;
-            }
-        }
-        from += stride;
-        i += 1;
+    for i in 0..rows {
+        here = run(s, here, p, count, 0, out, base + i * stride)?;
     }
-    Going::On(here)
+    Ok(here)
 }

@@ -1,11 +1,10 @@
 -- Reading into room that the caller lends: what a reader of the rules gives is stored, and a loop over readers stores as it goes.
---   into                     a result with its value stored: into_got, into_refused, into_next, into_end
+--   into                     a result with its value stored: into_off, into_on, into_got, into_refused, into_next, into_end
 --   pour                     the members of a list stored one after the other
 --   rest                     a loop's work from its i-th reader on: what is still to be read, stored into what the room holds by then
 --   Kept                     a loop's invariant: the rest of the work is the whole work
 --   began, stopped, went_on, ended       the loop's start, a turn that is refused, one that is not, and its end: the whole is the rules' `each`, stored
 --   file_end                 a file whose last record has been stored
---   field_off, field_on, going_off, going_on      what a callee gave, as a turn's result
 use Rattle.std.specs.Prelude.{◌≡◌, Bool, true, false, cond, List, [], ◌∷◌, eqb, length}
 use Rattle.std.proofs.Math.Path.{refl, sym, ap, fun_ext}
 use Rattle.std.proofs.Common.{◌∙◌, zero-add, add-zero, add-suc, suc-add, add-one}
@@ -13,12 +12,9 @@ use Prim.Native.Nat.{ℕ, zero, suc, ◌+◌, ◌-◌, ◌≤◌, ◌<◌}
 use native.Mathlib.Omega.{arith}
 use Rattle.rules.specs.Reader.{Place, Refusal, Result, refused, got, Reader, next, each, end}
 use Rattle.place.specs.declared.Place.{Place as Spot}
-use Rattle.place.specs.declared.Stop.{Stop}
-use Rattle.place.specs.declared.Field.{Field}
-use Rattle.place.specs.declared.Field.TheVariants.{Value, Off as Field_Off}
-use Rattle.place.specs.declared.Going.{Going}
-use Rattle.place.specs.declared.Going.TheVariants.{On, Off}
-use Rattle.place.specs.Places.{place, refusal, taken, going, finish_of, opened_at}
+use Rattle.place.specs.declared.Reason.TheVariants.{BytesLeft}
+use Rattle.std.specs.Prelude.{Ok, Err}
+use Rattle.place.specs.Places.{place, refusal, going, finish_of, opened_at, Going}
 
 unfoldable pub into : {A B : Type 0} → (A → B) → Result A → Result B
 into g (refused r) = refused r
@@ -68,8 +64,8 @@ going_finish : {B : Type 0} (b : B) (s : List ℕ) (q : Spot) → going (finish_
 unfolding end
 going_finish b s q = go (eqb q.at (length s))
   where
-    go : (t : Bool) → going (cond t (On q) (Off (record { code = 8; place = opened_at q }))) b
-        ≡ cond t (got b (place q)) (refused (refusal (record { code = 8; place = opened_at q })))
+    go : (t : Bool) → going (cond t (Ok q) (Err (record { reason = BytesLeft; place = opened_at q }))) b
+        ≡ cond t (got b (place q)) (refused (refusal (record { reason = BytesLeft; place = opened_at q })))
     go true = refl
     go false = refl
 
@@ -79,23 +75,15 @@ pub file_end : {A B : Type 0} (h : A → B) (a : A) {b : B} (s : List ℕ) (q : 
 file_end h a {b} s q e f =
     ap (λ (x : Going). going x b) f ∙ going_finish b s q ∙ sym (into_end h a s (place q) ∙ ap (λ y. end y s (place q)) e)
 
--- A field's answer, stored.
-module _ {B : Type 0} (g : ℕ → B) {r : Field} {m : Result ℕ} (gave : taken r ≡ m) where
-  pub field_off : {x : Stop} → r ≡ Field_Off x → into g m ≡ refused (refusal x)
+-- What was refused, or read, with its value stored.
+module _ {A B : Type 0} (g : A → B) {m : Result A} where
+  pub into_off : {x : Refusal} → refused x ≡ m → into g m ≡ refused x
   unfolding into
-  field_off e = ap (into g) (sym gave ∙ ap taken e)
+  into_off e = ap (into g) (sym e)
 
-  pub field_on : {v : ℕ} {q : Spot} → r ≡ Value v q → into g m ≡ got (g v) (place q)
+  pub into_on : {a : A} {q : Place} → got a q ≡ m → into g m ≡ got (g a) q
   unfolding into
-  field_on e = ap (into g) (sym gave ∙ ap taken e)
-
--- The answer of several fields that stored what they read.
-module _ {B : Type 0} (b : B) {r : Going} {m : Result B} (gave : going r b ≡ m) where
-  pub going_off : {x : Stop} → r ≡ Off x → m ≡ refused (refusal x)
-  going_off e = sym gave ∙ ap (λ (g : Going). going g b) e
-
-  pub going_on : {q : Spot} → r ≡ On q → m ≡ got b (place q)
-  going_on e = sym gave ∙ ap (λ (g : Going). going g b) e
+  into_on e = ap (into g) (sym e)
 
 -- The members of a list, the first of number i, put into st one after the other.
 unfoldable pub pour : {A S : Type 0} → (S → ℕ → A → S) → ℕ → S → List A → S

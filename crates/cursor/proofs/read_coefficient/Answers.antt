@@ -1,13 +1,13 @@
 -- `cursor::read_coefficient` meets its contract. Assumes nothing.
 use Rattle.std.proofs.Common.{sym, ap, ◌∙◌, ltb, rules}
-use Rattle.place.specs.Places.{taken, same_error}
+use Rattle.place.specs.Places.{taken, error_is}
 use Rattle.cursor.specs.Fields.{coefficient_refused, coefficient_passed, coefficient_zero}
 use Rattle.cursor.proofs.read_coefficient.Goals as goal
 use Rattle.cursor.proofs.read_coefficient.Goals.{else-k-length-via-then-k-length+else-v-eq0, else-k-length-via-else-k-length}
 
 pub returns-in_err-v : goal.returns-in_err-v
 returns-in_err-v c =
-    ap taken (same_error c.from_residual.ensures.1)
+    ap taken (error_is c.from_residual.ensures.1)
     ∙ sym (coefficient_refused _ _ _ _ _ (sym (c.in_err-v.ensures (λ v. ltb v c.args.p) (λ v b post. search rules))))
 
 pub returns-then-v-eq0 : goal.returns-then-v-eq0

@@ -1,29 +1,26 @@
--- The loop's invariant: the steps that are left do the whole work (`Reached`). The measure is how many are left.
-use mathlib.Core.Path.{refl}
-use native.Mathlib.Omega.{arith}
+-- The loop's invariant: the steps that are left do the whole work (`Reached`).
+use mathlib.Core.Path.{refl, ◌∙◌}
 use lib.ListN.{length-set}
-use Rattle.runs.specs.Stored.{begun, off, on, through, field_off, field_on}
+use Rattle.place.specs.Places.{error_is}
+use Rattle.runs.specs.Stored.{begun, off, on, through, store_off, store_on, stored_off}
 use Rattle.runs.specs.Rows.{run_stored}
 use Rattle.runs.proofs.run.Goals as goal
 
 pub loop-k-init : goal.loop-k-init
-loop-k-init c = (omega arith, refl, begun _ _ _ _)
+loop-k-init c = (refl, begun _ _ _ _)
 
-pub read_coefficient-requires : goal.read_coefficient-requires
-read_coefficient-requires c = omega arith
-
-pub returns-in-Off : goal.returns-in-Off
+pub returns-in_err-v : goal.returns-in_err-v
 unfolding run_stored
-returns-in-Off c = off c.loop-k.invariant.2 c.loop-k-test.true (field_off _ _ c.read_coefficient.ensures c.in-Off.is)
+returns-in_err-v c =
+    stored_off _ (error_is c.from_residual.ensures.1) ∙ off c.loop-k.invariant.1 c.loop-k-test.true (store_off _ _ c.in_err-v.ensures)
 
 pub loop-k-preserved : goal.loop-k-preserved
 loop-k-preserved c =
     let loop = c.loop-k in (
-      omega arith,
-      simp length-set loop.invariant.1,
-      on loop.invariant.2 c.loop-k-test.true (field_on _ _ c.read_coefficient.ensures c.in-Value.is),
+      simp length-set loop.invariant.0,
+      on loop.invariant.1 c.loop-k-test.true (store_on _ _ c.in_ok-v.ensures),
     )
 
 pub returns : goal.returns
 unfolding run_stored
-returns c = through c.loop-k.invariant.2 c.loop-k-test.false
+returns c = through c.loop-k.invariant.1 c.loop-k-test.false

@@ -1,5 +1,4 @@
 use mathlib.Core.Path.{◌≡◌}
-use Prim.Native.Nat.{◌-◌, ◌≤◌}
 use lib.ListN.{length}
 use Rattle.place.specs.Places.{place}
 use Rattle.runs.specs.Stored.{Reached}
@@ -7,9 +6,6 @@ use Rattle.runs.specs.Rows.{run_step}
 use Rattle.runs.proofs.run.Given as goal
 
 abbrev pub invariant-loop-k : goal.invariant-loop-k
-invariant-loop-k l = (l.k ≤ l.count)
-    × (length l.out ≡ length l.initial.out)
+invariant-loop-k l =
+    (length l.out ≡ length l.initial.out)
     × Reached (run_step l.p l.last l.base l.s) l.count l.initial.out (place l.initial.here) l.k l.out (place l.here)
-
-abbrev pub decreases-loop-k : goal.decreases-loop-k
-decreases-loop-k l = l.count - l.k
