@@ -2,10 +2,10 @@
 --   body_reader              what follows the `PR` record
 --   head_value, columns_value, problem_arrays        a problem that was read, in arrays
 --   problem_value            a problem that was read or refused, as the code's answer and what it leaves in the struct lent
---   problem_from, head_refused, head_given        a problem is its `PR` record and what follows
+--   problem_from, body_gives, head_refused, head_given      a problem is its `PR` record and what follows
 --   problem_refused          a refusal's offsets fit 32 bits
 use Rattle.std.specs.Prelude.{◌≡◌, List, ℕ, ℤ, pos, get_or, Result as Outcome, Ok, Err}
-use Rattle.std.proofs.Math.Path.{sym}
+use Rattle.std.proofs.Math.Path.{sym, ap}
 use Rattle.std.proofs.Common.{◌∙◌, arith}
 use Rattle.rules.specs.Sizes.{most_rows}
 use Rattle.rules.specs.Claim.{Problem}
@@ -20,9 +20,10 @@ use Rattle.claim.specs.declared.Problem.{Problem as ProblemArrays}
 use Rattle.claim.specs.Empty.{empty_problem}
 use Rattle.verdict.specs.declared.Refusal.{Refusal as Refused}
 use Rattle.refusal.specs.Narrow.{Narrow, from_front, refusal_value}
-use Rattle.storing.specs.Flat.{list_into, shifts_into, columns_into}
+use Rattle.place.specs.Places.{place, Going, going}
+use Rattle.storing.specs.Flat.{list_into, shifts_into, columns_into, body_into}
 use Rattle.storing.specs.Records.{then_refused, then_given}
-use Rattle.storing.specs.Storing.{into, into_next, into_end}
+use Rattle.storing.specs.Storing.{into, into_got, into_refused, into_next, into_end}
 
 -- A problem after its `PR` record: orders, shifts and F, to the file's end.
 unfoldable pub body_reader : (p m n : ℕ) → Reader (List ℕ × List ℤ × List (List (List ℕ)))
@@ -50,6 +51,23 @@ problem_value (got b q) = (Ok tt, problem_arrays b)
 -- A problem from the numbers of its `PR` record and what follows.
 abbrev pub problem_from : (p m n : ℕ) → List ℕ × List ℤ × List (List (List ℕ)) → Problem
 problem_from p m n b = record { p = p; m = m; n = n; orders = b.0; shifts = b.1; F = b.2 }
+
+-- The arrays of a problem whose numbers are those of its `PR` record, where what follows was read into arrays of zeros.
+pub body_gives : (r : Going) (b : ProblemArrays) (p m n : ℕ) (body : Result (List ℕ × List ℤ × List (List (List ℕ))))
+    → (b.head.p ≡ p) × (b.head.m ≡ m) × (b.head.n ≡ n)
+    → going r (b.head.orders, b.head.shifts, b.f) ≡ into (body_into (filled most_rows 0, filled most_rows (pos 0), filled column_coefficients 0)) body
+    → going r b ≡ into problem_arrays (into (problem_from p m n) body)
+unfolding into
+body_gives (Ok q) b p m n body kept e =
+    let (a, read, stands) = into_got _ body e in
+    let same : b ≡ problem_arrays (problem_from p m n a) =
+    λ i. record {
+      head =
+          record { p = kept.0 i; m = kept.1 i; n = kept.2 i; orders = (sym stands i).0; shifts = (sym stands i).1 };
+      f = (sym stands i).2;
+    } in
+    ap (λ (z : ProblemArrays). got z (place q)) same ∙ ap (λ z. into problem_arrays (into (problem_from p m n) z)) read
+body_gives (Err x) b p m n body kept e = ap (λ z. into problem_arrays (into (problem_from p m n) z)) (into_refused _ body e)
 
 module _ (s : List ℕ) where
   -- A problem whose `PR` record is refused.

@@ -36,13 +36,13 @@ closed_into b h g m e gave = ap (λ (x : Going). going x b) e ∙ going_closed b
 
 -- Where a reader that stored what it read left the reading.
 pub stored_forward : {A B : Type 0} {k c : ℕ} {Q : A → Type 0} {m : Reader A} → Sound k c Q m → (h : A → B) (s : List ℕ) (p : Place) {b : B} {q : Place}
-    → into h (m s p) ≡ got b q → Forward k c s p q
-stored_forward {m = m} sound h s p e = (sound.gives s p (into_got h (m s p) e).1).1
+    → got b q ≡ into h (m s p) → Forward k c s p q
+stored_forward {m = m} sound h s p e = (sound.gives s p (sym (into_got h (m s p) e).1)).1
 
 -- No record passes in a list of fields.
 pub list_numbered : {A B : Type 0} {Q : ℕ → A → Type 0} {k : ℕ} (d : A) (b : B) (h : List A → B) (n : ℕ) (f : ℕ → Reader A) (s : List ℕ) (p : Place) (g : Going)
     → going g b ≡ into h (each n f s p) → ((i : ℕ) → Sound k 0 (Q i) (f i)) → p.number < 65_535 → Numbered g
-list_numbered d b h n f s p (Ok q) gave sound le = omega (arith, (stored_forward (sound_each d n f sound) h s p (sym gave)).number)
+list_numbered d b h n f s p (Ok q) gave sound le = omega (arith, (stored_forward (sound_each d n f sound) h s p gave).number)
 list_numbered d b h n f s p (Err x) gave sound le = tt
 
 -- A mark that was read at the place of a record's first byte.

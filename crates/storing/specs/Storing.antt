@@ -34,13 +34,13 @@ refusal_or y (refused x) = x
 refusal_or y (got b q) = y
 
 -- What was stored was read.
-pub into_got : {A B : Type 0} (h : A → B) (m : Result A) {b : B} {q : Place} → into h m ≡ got b q → (a : A) × (m ≡ got a q) × (h a ≡ b)
+pub into_got : {A B : Type 0} (h : A → B) (m : Result A) {b : B} {q : Place} → got b q ≡ into h m → (a : A) × (got a q ≡ m) × (h a ≡ b)
 unfolding into value_or place_or
 into_got h (refused x) e = let z : ◌≡◌ {A = ℕ} 0 1 = cc in absurd (omega arith)
-into_got h (got a q') {b} e = (a, ap (λ (p : Place). got a p) (ap (place_or q') e), ap (value_or b) e)
+into_got h (got a q') {b} e = (a, ap (λ (p : Place). got a p) (ap (place_or q') e), ap (value_or b) (sym e))
 
 -- What was refused was refused.
-pub into_refused : {A B : Type 0} (h : A → B) (m : Result A) {x : Refusal} → into h m ≡ refused x → m ≡ refused x
+pub into_refused : {A B : Type 0} (h : A → B) (m : Result A) {x : Refusal} → refused x ≡ into h m → refused x ≡ m
 unfolding into refusal_or
 into_refused h (refused y) e = ap (λ (r : Refusal). refused r) (ap (refusal_or y) e)
 into_refused h (got a q) e = let z : ◌≡◌ {A = ℕ} 0 1 = cc in absurd (omega arith)

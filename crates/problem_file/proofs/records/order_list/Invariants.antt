@@ -1,5 +1,4 @@
 use mathlib.Core.Path.{◌≡◌}
-use Prim.Native.Nat.{◌-◌, ◌≤◌}
 use lib.ListN.{length, set}
 use Rattle.rules.specs.Sizes.{most_order}
 use Rattle.rules.specs.Reader.{field, unless}
@@ -9,7 +8,4 @@ use Rattle.place.specs.Places.{place}
 use Rattle.problem_file.proofs.records.order_list.Given as goal
 
 abbrev pub invariant-loop-j : goal.invariant-loop-j
-invariant-loop-j l = (l.j ≤ l.n) × (length l.out ≡ length l.initial.out) × Kept set (λ k. field 1 (unless 3 (one_to most_order))) l.s l.n l.initial.out (place l.initial.here) l.j l.out (place l.here)
-
-abbrev pub decreases-loop-j : goal.decreases-loop-j
-decreases-loop-j l = l.n - l.j
+invariant-loop-j l = (length l.out ≡ length l.initial.out) × Kept set (λ k. field 1 (unless 3 (one_to most_order))) l.s l.n l.initial.out (place l.initial.here) l.j l.out (place l.here)

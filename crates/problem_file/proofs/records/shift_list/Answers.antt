@@ -1,32 +1,32 @@
 -- `problem_file::records::shift_list` meets its contract. The loop's invariant: what is still to be read, stored into what stands there by now, is the whole
--- work (`Kept`). The measure is how much is left. Assumes nothing.
+-- work (`Kept`). Assumes nothing.
 use mathlib.Core.Path.{refl, ◌∙◌}
-use native.Mathlib.Omega.{arith}
 use lib.ListN.{length-set}
 use borrow.Author.Rules.{rules}
 use mir.Facts.{to_z-of_z}
 use mir.Syntax.{w32}
+use Rattle.place.specs.Places.{going_off, error_is}
 use Rattle.storing.specs.Storing.{began, stopped, went_on, ended}
 use Rattle.problem_file.specs.Shifts.{shift_off, shift_on, two_bytes}
 use Rattle.problem_file.proofs.records.shift_list.Goals as goal
 
 pub loop-i-init : goal.loop-i-init
-loop-i-init c = (omega arith, refl, began _ _ _ _ _ _)
+loop-i-init c = (refl, began _ _ _ _ _ _)
 
-pub returns-in-Off : goal.returns-in-Off
-returns-in-Off c = stopped c.loop-i.invariant.2 c.loop-i-test.true (shift_off _ _ _ c.read_shift.ensures c.in-Off.is)
+pub returns-in_err-v : goal.returns-in_err-v
+returns-in_err-v c =
+    going_off _ (error_is c.from_residual.ensures.1) ∙ stopped c.loop-i.invariant.1 c.loop-i-test.true (shift_off _ _ _ c.in_err-v.ensures)
 
 pub signed16-requires : goal.signed16-requires
-signed16-requires c = two_bytes _ _ _ (search rules) c.read_shift.ensures c.in-Value.is
+signed16-requires c = two_bytes _ _ _ (search rules) c.in_ok-v.ensures
 
 pub loop-i-preserved : goal.loop-i-preserved
 loop-i-preserved c =
     let loop = c.loop-i in (
-      omega arith,
-      simp length-set loop.invariant.1,
-      went_on loop.invariant.2 c.loop-i-test.true
-          (shift_on _ _ _ c.read_shift.ensures c.in-Value.is (to_z-of_z {w = w32} (record { sfits = c.signed16.type_inv }) ∙ c.signed16.ensures)),
+      simp length-set loop.invariant.0,
+      went_on loop.invariant.1 c.loop-i-test.true
+          (shift_on _ _ _ c.in_ok-v.ensures (to_z-of_z {w = w32} (record { sfits = c.signed16.type_inv }) ∙ c.signed16.ensures)),
     )
 
 pub returns : goal.returns
-returns c = ended c.loop-i.invariant.2 c.loop-i-test.false
+returns c = ended c.loop-i.invariant.1 c.loop-i-test.false

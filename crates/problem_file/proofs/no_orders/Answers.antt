@@ -1,9 +1,0 @@
--- `problem_file::no_orders` meets its contract. Assumes nothing.
-use mathlib.Core.Path.{refl}
-use Rattle.rules.specs.Sizes.{most_rows}
-use Rattle.layout.specs.Flat.{filled}
-use Rattle.problem_file.proofs.no_orders.Goals as goal
-
-pub returns : goal.returns
-unfolding filled most_rows
-returns c = refl
