@@ -26,7 +26,7 @@ next_assoc (refused x) f g = refl
 next_assoc (got a q) f g = refl
 
 -- The `PE` record after its mark: its numbers, then as many coefficients as they say.
-pub PE_after_mark : (p i j : ℕ) (s : List ℕ) (at : Place) {v : ℕ} {q : Place} → mark PE_mark s (opening at) ≡ got v q
+pub PE_after_mark : (p i j : ℕ) (s : List ℕ) (at : Place) {v : ℕ} {q : Place} → got v q ≡ mark PE_mark s (opening at)
     → PE p i j s at ≡ closing (next (count_reader i j s q) (λ L q'. each L (λ k. field 4 (coefficient_test p L k)) s q'))
 unfolding PE count_reader
 PE_after_mark p i j s at {v} {q} e =

@@ -1,12 +1,11 @@
 -- An answer that the rules read, as the code's structs.
 --   answer_parts, answer_parts_refused       P, and C where the `CE` record is due
 --   read_answer              the answer to a problem with p, m and n, with its `CE` record or without: only, without_evidence
---   lengths_value, entries_value, constants_value      an answer that was read, in arrays
---   answer_value             an answer that was read or refused, as the code's `ReadAnswer`
---   with_entries, with_coefficients          an answer without its arrays, or without P's coefficients, and with them
+--   lengths_value, entries_value, constants_value, answer_arrays       an answer that was read, in arrays
+--   answer_value             an answer that was read or refused, as the code's answer and what it leaves in the struct lent
 --   answer_from, answer_given        an answer is its parts
 --   read_answer_refused      a refusal's offsets fit 32 bits
-use Rattle.std.specs.Prelude.{◌≡◌, Bool, true, false, List, [], ℕ, ◌≤◌}
+use Rattle.std.specs.Prelude.{◌≡◌, Bool, true, false, List, [], ℕ, ◌≤◌, Result as Outcome, Ok, Err}
 use Rattle.std.proofs.Common.{sym, ◌∙◌, arith}
 use Rattle.rules.specs.Sizes.{most_rows}
 use Rattle.rules.specs.Claim.{Problem, Answer}
@@ -17,13 +16,12 @@ use Rattle.laws.specs.Soundness.{sound_basis_sized, sound_answer_sized}
 use Rattle.laws.specs.Lengths.{longest_basis_is, longest_answer_is}
 use Rattle.layout.specs.Flat.{filled, square, entry_coefficients}
 use Rattle.claim.specs.declared.Answer.{Answer as AnswerArrays}
-use Rattle.refusal.specs.Narrow.{Narrow, from_front, refusal_value, no_refusal}
+use Rattle.claim.specs.Empty.{empty_answer}
+use Rattle.verdict.specs.declared.Refusal.{Refusal as Refused}
+use Rattle.refusal.specs.Narrow.{Narrow, from_front, refusal_value}
 use Rattle.storing.specs.Flat.{entries_into, evidence_into}
 use Rattle.storing.specs.Records.{then_refused}
 use Rattle.storing.specs.Storing.{into, into_next, into_end, into_refused}
-use Rattle.answer_file.specs.declared.AnswerOutline.{AnswerOutline}
-use Rattle.answer_file.specs.declared.ReadAnswer.{ReadAnswer}
-use Rattle.answer_file.specs.declared.Ended.{Ended}
 
 -- An answer: P, and C where the `CE` record is due.
 unfoldable pub answer_parts : (p m n : ℕ) → Bool → Reader (List (List (List ℕ)) × List (List ℕ))
@@ -31,7 +29,7 @@ answer_parts p m n true = entries_reader p m >>= λ P. CE p m n >>= λ C. end (P
 answer_parts p m n false = entries_reader p m >>= λ P. end (P, [])
 
 -- Both end with a refusal of the entries.
-pub answer_parts_refused : (p m n : ℕ) (evidence : Bool) (s : List ℕ) (q : Place) {x : Refusal} → entries_reader p m s q ≡ refused x
+pub answer_parts_refused : (p m n : ℕ) (evidence : Bool) (s : List ℕ) (q : Place) {x : Refusal} → refused x ≡ entries_reader p m s q
     → answer_parts p m n evidence s q ≡ refused x
 unfolding answer_parts
 answer_parts_refused p m n true s q e = then_refused _ e
@@ -63,19 +61,13 @@ constants_value C = evidence_into (filled square 0) C
 abbrev pub answer_with : (lengths entries c : List ℕ) → AnswerArrays
 answer_with lengths entries c = record { basis = record { lengths = lengths; entries = entries }; c = c }
 
--- The code's reading of an answer: what was read, or the refusal; every other number is 0.
-unfoldable pub answer_value : Result Answer → ReadAnswer
-answer_value (refused x) =
-    record { ok = false; refusal = refusal_value x; answer = answer_with (filled square 0) (filled entry_coefficients 0) (filled square 0) }
-answer_value (got a q) =
-    record { ok = true; refusal = no_refusal; answer = answer_with (lengths_value a.P) (entries_value a.P) (constants_value a.C) }
+abbrev pub answer_arrays : Answer → AnswerArrays
+answer_arrays a = answer_with (lengths_value a.P) (entries_value a.P) (constants_value a.C)
 
--- An answer without its arrays, or without the coefficients of P, and with them.
-abbrev pub with_entries : Ended → (lengths entries c : List ℕ) → ReadAnswer
-with_entries a lengths entries c = record { ok = a.ok; refusal = a.refusal; answer = answer_with lengths entries c }
-
-abbrev pub with_coefficients : AnswerOutline → List ℕ → ReadAnswer
-with_coefficients a entries = record { ok = a.ok; refusal = a.refusal; answer = answer_with a.lengths entries a.c }
+-- The code's reading of an answer, and where it goes: what was read, or the refusal and 0 everywhere.
+unfoldable pub answer_value : Result Answer → Outcome (Unit {0}) Refused × AnswerArrays
+answer_value (refused x) = (Err (refusal_value x), empty_answer)
+answer_value (got a q) = (Ok tt, answer_arrays a)
 
 abbrev pub answer_from : List (List (List ℕ)) × List (List ℕ) → Answer
 answer_from a = record { P = a.0; C = a.1 }
@@ -105,4 +97,4 @@ pub read_answer_refused : (p m n : ℕ) (evidence : Bool) (t : List ℕ) {x : Re
     → Narrow x.place
 unfolding read_answer
 read_answer_refused p m n true t hm hn e = answer_refused (only p m n) t hm hn e
-read_answer_refused p m n false t hm hn e = basis_refused (only p m n) t hm (into_refused without_evidence (basis_reader (only p m n) t (front 1)) e)
+read_answer_refused p m n false t hm hn e = basis_refused (only p m n) t hm (sym (into_refused without_evidence (basis_reader (only p m n) t (front 1)) (sym e)))

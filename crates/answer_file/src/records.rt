@@ -5,15 +5,16 @@ ghost use Rattle.rules.specs.Reader.{each};
 ghost use Rattle.rules.specs.Files;
 ghost use Rattle.rules.specs.Files.{entries_reader};
 ghost use Rattle.place.specs.Places.{place, going, taken};
-ghost use Rattle.layout.specs.Flat.{square, entry_coefficients};
+ghost use Rattle.layout.specs.Flat.{square};
 ghost use Rattle.storing.specs.Storing.{into};
 ghost use Rattle.storing.specs.Flat.{put_entry, row_into, entries_into, evidence_into, answer_into};
 ghost use Rattle.answer_file.specs.Counts.{count_reader};
 ghost use Rattle.answer_file.specs.Values.{answer_parts};
 
+use claim::{Answer, Basis, Head};
 use cursor::{read_count, read_due, read_mark};
 use layout::{LENGTH, ROWS, entry_place, square_place};
-use place::{Field, Going, Place, closed, finish, opened};
+use place::{Place, Stop, closed, finish, opened};
 use runs::{block, run};
 
 // The marks, low byte first.
@@ -23,20 +24,16 @@ const CE: u32 = 0x43 + 256 * 0x45;
 
 // s: the file. q: the place after the mark of a `PE` record. i and j: the row and the column that are due.
 // The count of its coefficients and the place after it, or the refusal.
-fn entry_count(s: &[u8], q: Place, i: usize, j: usize) -> Field
+fn entry_count(s: &[u8], q: Place, i: usize, j: usize) -> Result<(u32, Place), Stop>
     requires { (i < most_rows) × (j < most_rows) }
     ensures { taken result ≡ count_reader i j s.now (place q) }
 {
-    match read_due(s, q, i as u32) {
-        Field::Off(x) => Field::Off(x),
-        Field::Value(_, q1) => match read_due(s, q1, j as u32) {
-            Field::Off(x) => Field::Off(x),
-            Field::Value(_, q2) => read_count(s, q2, LENGTH as u32),
-        },
-    }
+    let (_, q) = read_due(s, q, i as u32)?;
+    let (_, q) = read_due(s, q, j as u32)?;
+    read_count(s, q, LENGTH as u32)
 }
 
-// s: the file. q: the place of the `PE` record of row i and column j, modulo p. lengths and entries: where its length and its coefficients go.
+// s: the file. q: the place of the `PE` record of row i and column j, modulo p. basis: where its length and its coefficients go.
 // How the reading goes on after the record.
 fn read_entry(
     s: &[u8],
@@ -44,27 +41,27 @@ fn read_entry(
     p: u32,
     i: usize,
     j: usize,
-    lengths: &mut [usize],
-    entries: &mut [u32],
-) -> Going
-    requires { (q.number < 65535) × (i < most_rows) × (j < most_rows) × (length lengths.old ≡ square) × (length entries.old ≡ entry_coefficients) }
-    ensures { going result (lengths.new, entries.new) ≡ into (put_entry i (lengths.old, entries.old) j) (Files.PE p i j s.now (place q)) }
+    basis: &mut Basis,
+) -> Result<Place, Stop>
+    requires { (q.number < 65535) × (i < most_rows) × (j < most_rows) }
+    ensures { going result (basis.new.lengths, basis.new.entries) ≡ into (put_entry i (basis.old.lengths, basis.old.entries) j) (Files.PE p i j s.now (place q)) }
 {
-    match read_mark(s, opened(q), PE) {
-        Field::Off(x) => Going::Off(x),
-        Field::Value(_, q1) => match entry_count(s, q1, i, j) {
-            Field::Off(x) => Going::Off(x),
-            Field::Value(l, q2) => {
-                let count = l as usize;
-                let cell = square_place(i, j);
-                lengths[cell] = count;
-                closed(run(s, q2, p, count, count, entries, entry_place(i, j, 0)))
-            }
-        },
-    }
+    let (_, q) = read_mark(s, opened(q), PE)?;
+    let (l, q) = entry_count(s, q, i, j)?;
+    let count = l as usize;
+    basis.lengths[square_place(i, j)] = count;
+    closed(run(
+        s,
+        q,
+        p,
+        count,
+        count,
+        &mut basis.entries,
+        entry_place(i, j, 0),
+    ))
 }
 
-// s: the file. q: the place of the first of m `PE` records of row i, modulo p. lengths and entries: where their lengths and their coefficients go.
+// s: the file. q: the place of the first of m `PE` records of row i, modulo p. basis: where their lengths and their coefficients go.
 // How the reading goes on after them.
 fn read_row(
     s: &[u8],
@@ -72,92 +69,64 @@ fn read_row(
     p: u32,
     m: usize,
     i: usize,
-    lengths: &mut [usize],
-    entries: &mut [u32],
-) -> Going
-    requires { (q.number + m < 65535) × (m ≤ most_rows) × (i < most_rows) × (length lengths.old ≡ square) × (length entries.old ≡ entry_coefficients) }
-    ensures { going result (lengths.new, entries.new) ≡ into (row_into (lengths.old, entries.old) i) (each m (λ j. Files.PE p i j) s.now (place q)) }
+    basis: &mut Basis,
+) -> Result<Place, Stop>
+    requires { (q.number + m < 65535) × (m ≤ most_rows) × (i < most_rows) }
+    ensures { going result (basis.new.lengths, basis.new.entries) ≡ into (row_into (basis.old.lengths, basis.old.entries) i) (each m (λ j. Files.PE p i j) s.now (place q)) }
 {
     let mut here = q;
-    let mut j = 0;
-    while j < m {
-        match read_entry(s, here, p, i, j, lengths, entries) {
-            Going::Off(x) => return Going::Off(x),
-            Going::On(next) => {
-                here = next;
-            }
-        }
-        j += 1;
+    for j in 0..m {
+        here = read_entry(s, here, p, i, j, basis)?;
     }
-    Going::On(here)
+    Ok(here)
 }
 
-// s: the file. q: the place of the first `PE` record of m rows of m, modulo p. lengths and entries: where their lengths and their coefficients go.
+// s: the file. q: the place of the first `PE` record of m rows of m, modulo p. basis: where their lengths and their coefficients go.
 // How the reading goes on after them.
-fn read_entries(
-    s: &[u8],
-    q: Place,
-    p: u32,
-    m: usize,
-    lengths: &mut [usize],
-    entries: &mut [u32],
-) -> Going
-    requires { (q.number + square < 65535) × (m ≤ most_rows) × (length lengths.old ≡ square) × (length entries.old ≡ entry_coefficients) }
-    ensures { going result (lengths.new, entries.new) ≡ into (entries_into (lengths.old, entries.old)) (entries_reader p m s.now (place q)) }
+fn read_entries(s: &[u8], q: Place, p: u32, m: usize, basis: &mut Basis) -> Result<Place, Stop>
+    requires { (q.number + square < 65535) × (m ≤ most_rows) }
+    ensures { going result (basis.new.lengths, basis.new.entries) ≡ into (entries_into (basis.old.lengths, basis.old.entries)) (entries_reader p m s.now (place q)) }
 {
     let mut here = q;
-    let mut i = 0;
-    while i < m {
-        match read_row(s, here, p, m, i, lengths, entries) {
-            Going::Off(x) => return Going::Off(x),
-            Going::On(next) => {
-                here = next;
-            }
-        }
-        i += 1;
+    for i in 0..m {
+        here = read_row(s, here, p, m, i, basis)?;
     }
-    Going::On(here)
+    Ok(here)
 }
 
 // s: the file. q: the place of the `CE` record: m rows of n numbers modulo p. out: where they go.
 // How the reading goes on after the record.
-fn read_evidence(s: &[u8], q: Place, p: u32, m: usize, n: usize, out: &mut [u32]) -> Going
-    requires { (q.number < 65535) × (m ≤ most_rows) × (n ≤ most_rows) × (length out.old ≡ square) }
-    ensures { going result out.new ≡ into (evidence_into out.old) (Files.CE p m n s.now (place q)) }
-{
-    match read_mark(s, opened(q), CE) {
-        Field::Off(x) => Going::Off(x),
-        Field::Value(_, q1) => closed(block(s, q1, p, m, n, out, 0, ROWS)),
-    }
-}
-
-// s: the file. q: its front. p, m and n: the problem's. evidence: whether the `CE` record is due. lengths, entries and out: where lengths, coefficients and C go.
-// How the reading goes on, which is at the file's end.
-pub(crate) fn read_all(
+fn read_evidence(
     s: &[u8],
     q: Place,
     p: u32,
     m: usize,
     n: usize,
-    evidence: bool,
-    lengths: &mut [usize],
-    entries: &mut [u32],
     out: &mut [u32],
-) -> Going
-    requires number_value { (q.number ≡ 0) × (m ≤ most_rows) × (n ≤ most_rows) }
-    requires lengths_len { (length lengths.old ≡ square) × (length entries.old ≡ entry_coefficients) × (length out.old ≡ square) }
-    ensures { going result (lengths.new, entries.new, out.new) ≡ into (answer_into (lengths.old, entries.old, out.old)) (answer_parts p m n evidence s.now (place q)) }
+) -> Result<Place, Stop>
+    requires { (q.number < 65535) × (m ≤ most_rows) × (n ≤ most_rows) × (length out.old ≡ square) }
+    ensures { going result out.new ≡ into (evidence_into out.old) (Files.CE p m n s.now (place q)) }
 {
-    match read_entries(s, q, p, m, lengths, entries) {
-        Going::Off(x) => Going::Off(x),
-        Going::On(q1) => {
-            if !evidence {
-                return finish(s, q1);
-            }
-            match read_evidence(s, q1, p, m, n, out) {
-                Going::Off(x) => Going::Off(x),
-                Going::On(q2) => finish(s, q2),
-            }
-        }
+    let (_, q) = read_mark(s, opened(q), CE)?;
+    closed(block(s, q, p, m, n, out, 0, ROWS))
+}
+
+// s: the file. q: its front. head: the problem's numbers. evidence: whether the `CE` record is due. answer: where lengths, coefficients and C go.
+// How the reading goes on, which is at the file's end.
+pub(crate) fn read_all(
+    s: &[u8],
+    q: Place,
+    head: &Head,
+    evidence: bool,
+    answer: &mut Answer,
+) -> Result<Place, Stop>
+    requires { (q.number ≡ 0) × (head.now.m ≤ most_rows) × (head.now.n ≤ most_rows) }
+    ensures { going result (answer.new.basis.lengths, answer.new.basis.entries, answer.new.c) ≡ into (answer_into (answer.old.basis.lengths, answer.old.basis.entries, answer.old.c)) (answer_parts head.now.p head.now.m head.now.n evidence s.now (place q)) }
+{
+    let q = read_entries(s, q, head.p, head.m, &mut answer.basis)?;
+    if !evidence {
+        return finish(s, q);
     }
+    let q = read_evidence(s, q, head.p, head.m, head.n, &mut answer.c)?;
+    finish(s, q)
 }

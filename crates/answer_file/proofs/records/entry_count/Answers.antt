@@ -1,9 +1,10 @@
 -- `answer_file::records::entry_count` meets its contract. Assumes nothing.
-use mathlib.Core.Path.{sym, ◌∙◌}
+use mathlib.Core.Path.{sym, ap, ◌∙◌}
 use native.Mathlib.Omega.{arith}
 use Rattle.rules.specs.Sizes.{most_rows, most_length}
 use Rattle.answer_file.specs.Counts.{count_reader}
-use Rattle.storing.specs.Records.{refuses, gives, then_refused, then_given}
+use Rattle.place.specs.Places.{taken, error_is}
+use Rattle.storing.specs.Records.{then_refused, then_given}
 use Rattle.answer_file.proofs.records.entry_count.Goals as goal
 
 pub overflow_cast-i : goal.overflow_cast-i
@@ -14,18 +15,15 @@ pub overflow_cast-j : goal.overflow_cast-j
 unfolding most_rows
 overflow_cast-j c = omega arith
 
-pub returns-in-Off : goal.returns-in-Off
+pub returns-in_err-q : goal.returns-in_err-q
 unfolding count_reader
-returns-in-Off c = sym (then_refused _ (refuses (c.read_due.ensures) c.in-Off.is))
+returns-in_err-q c = ap taken (error_is c.from_residual.ensures.1) ∙ sym (then_refused _ c.in_err-q.ensures)
 
-pub returns-in-Off-read_due : goal.returns-in-Off-read_due
+pub returns-in_err-q-2 : goal.returns-in_err-q-2
 unfolding count_reader
-returns-in-Off-read_due c =
-    sym
-    (then_given _ (gives (c.read_due.ensures) c.in-Value.is) ∙ then_refused _ (refuses (c.read_due-in-Value.ensures) c.in-Off-read_due.is))
+returns-in_err-q-2 c =
+    ap taken (error_is c.from_residual-in_err-q-2.ensures.1) ∙ sym (then_given _ c.in_ok-q.ensures ∙ then_refused _ c.in_err-q-2.ensures)
 
-pub returns-in-Value-read_due : goal.returns-in-Value-read_due
+pub returns : goal.returns
 unfolding count_reader most_length
-returns-in-Value-read_due c =
-    c.read_count.ensures
-    ∙ sym (then_given _ (gives (c.read_due.ensures) c.in-Value.is) ∙ then_given _ (gives (c.read_due-in-Value.ensures) c.in-Value-read_due.is))
+returns c = c.read_count.ensures ∙ sym (then_given _ c.in_ok-q.ensures ∙ then_given _ c.in_ok-q-2.ensures)

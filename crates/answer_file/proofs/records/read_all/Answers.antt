@@ -10,8 +10,8 @@ use Rattle.laws.specs.Soundness.{sound_entries}
 use Rattle.answer_file.specs.Values.{answer_parts, answer_parts_refused}
 use Rattle.storing.specs.Records.{then_refused, then_given, refused_into}
 use Rattle.storing.specs.Flat.{answer_into}
-use Rattle.storing.specs.Storing.{into, pour, into_got, into_refused, file_end, going_on, going_off}
-use Rattle.place.specs.Places.{place}
+use Rattle.storing.specs.Storing.{into, pour, into_got, into_refused, file_end}
+use Rattle.place.specs.Places.{place, going_off, error_is}
 use Rattle.answer_file.proofs.records.read_all.Goals as goal
 
 pub read_entries-requires : goal.read_entries-requires
@@ -22,42 +22,48 @@ read_entries-requires c = omega (arith, c.requires)
 parts-by : {b b' : Bool} (p m n : ℕ) (s : List ℕ) (q : Place) → b ≡ b' → answer_parts p m n b s q ≡ answer_parts p m n b' s q
 parts-by p m n s q e = ap (λ (b : Bool). answer_parts p m n b s q) e
 
+pub returns-in_err-q : goal.returns-in_err-q
+returns-in_err-q c =
+    going_off _ (error_is c.from_residual.ensures.1)
+    ∙ refused_into _ (answer_parts_refused _ _ _ _ _ _ (into_refused _ _ c.in_err-q.ensures))
+
 pub returns-then-not-evidence : goal.returns-then-not-evidence
 unfolding answer_parts pour
 returns-then-not-evidence c =
-    let args = c.args in
-    let entries = into_got _ _ (going_on _ c.read_entries.ensures c.in-On.is) in
-    file_end (answer_into (args.lengths.now, args.entries.now, args.out.now)) (entries.0, []) _ _
-    (λ i. ((entries.2 i).0, (entries.2 i).1, args.out.now)) c.finish.ensures
+    let head = c.args.head.now in
+    let room = c.args.answer.now in
+    let entries = into_got _ _ c.in_ok-q.ensures in
+    file_end (answer_into (room.basis.lengths, room.basis.entries, room.c)) (entries.0, []) _ _
+    (λ i. ((entries.2 i).0, (entries.2 i).1, room.c)) c.finish.ensures
     ∙ sym
-    (ap (into (answer_into (args.lengths.now, args.entries.now, args.out.now))) (parts-by args.p args.m args.n args.s.now (place args.q) c.if-not-evidence.true ∙ then_given _ entries.1))
+    (ap (into (answer_into (room.basis.lengths, room.basis.entries, room.c))) (parts-by head.p head.m head.n c.args.s.now (place c.args.q) c.if-not-evidence.true ∙ then_given _ entries.1))
 
 pub read_evidence-requires : goal.read_evidence-requires
 unfolding most_rows
 read_evidence-requires c =
-    let entries = into_got _ _ (going_on _ c.read_entries.ensures c.in-On.is) in
-    omega (arith, c.requires, ((sound_entries _ _ c.requires.number_value.1).gives _ _ entries.1).1.number)
+    let entries = into_got _ _ c.in_ok-q.ensures in
+    omega (arith, c.requires, ((sound_entries _ _ c.requires.1).gives _ _ (sym entries.1)).1.number)
 
-pub returns-in-Off : goal.returns-in-Off
-returns-in-Off c = refused_into _ (answer_parts_refused _ _ _ _ _ _ (into_refused _ _ (going_off _ c.read_entries.ensures c.in-Off.is)))
-
-pub returns-in-Off-read_evidence : goal.returns-in-Off-read_evidence
+pub returns-in_err-q-2 : goal.returns-in_err-q-2
 unfolding answer_parts
-returns-in-Off-read_evidence c =
-    let args = c.args in
-    let entries = into_got _ _ (going_on _ c.read_entries.ensures c.in-On.is) in
-    refused_into _
-    (parts-by args.p args.m args.n args.s.now (place args.q) c.if-not-evidence.false
+returns-in_err-q-2 c =
+    let head = c.args.head.now in
+    let entries = into_got _ _ c.in_ok-q.ensures in
+    going_off _ (error_is c.from_residual-in_err-q-2.ensures.1)
+    ∙ refused_into _
+    (parts-by head.p head.m head.n c.args.s.now (place c.args.q) c.if-not-evidence.false
     ∙ then_given _ entries.1
-    ∙ then_refused _ (into_refused _ _ (going_off _ c.read_evidence.ensures c.in-Off-read_evidence.is)))
+    ∙ then_refused _ (into_refused _ _ c.in_err-q-2.ensures))
 
-pub returns-in-On-read_evidence : goal.returns-in-On-read_evidence
+pub returns : goal.returns
 unfolding answer_parts
-returns-in-On-read_evidence c =
-    let args = c.args in
-    let entries = into_got _ _ (going_on _ c.read_entries.ensures c.in-On.is) in
-    let evidence = into_got _ _ (going_on _ c.read_evidence.ensures c.in-On-read_evidence.is) in
-    file_end (answer_into (args.lengths.now, args.entries.now, args.out.now)) (entries.0, evidence.0) _ _
-    (λ i. ((entries.2 i).0, (entries.2 i).1, evidence.2 i)) c.finish-in-On-read_evidence.ensures
+returns c =
+    let head = c.args.head.now in
+    let room = c.args.answer.now in
+    let entries = into_got _ _ c.in_ok-q.ensures in
+    let evidence = into_got _ _ c.in_ok-q-2.ensures in
+    file_end (answer_into (room.basis.lengths, room.basis.entries, room.c)) (entries.0, evidence.0) _ _
+    (λ i. ((entries.2 i).0, (entries.2 i).1, evidence.2 i)) c.finish-2.ensures
     ∙ sym
-    (ap (into (answer_into (args.lengths.now, args.entries.now, args.out.now))) (parts-by args.p args.m args.n args.s.now (place args.q) c.if-not-evidence.false ∙ then_given _ entries.1 ∙ then_given _ evidence.1))
+    (ap (into (answer_into (room.basis.lengths, room.basis.entries, room.c)))
+    (parts-by head.p head.m head.n c.args.s.now (place c.args.q) c.if-not-evidence.false ∙ then_given _ entries.1 ∙ then_given _ evidence.1))
