@@ -1,1 +1,3 @@
+-- Laws that several proofs cite, and that each contract leaves one result.
+pub mod Parts
 pub mod Unique

@@ -2,6 +2,7 @@
 --   Below f from to limit    the numbers of f from one place to another are below a limit
 --   Sized p m n              p, m and n are within their sizes
 --   Orders n orders, Shifts m shifts       the orders and the shifts are within theirs, and 0 where there is no column or row
+--   Numbers head             the numbers beside F are so
 --   Row p d f base           the d coefficients of an entry are below p, and what follows them is 0
 --   Rows, Column, Columns    the same of a column's rows, of a column, and of F
 --   Canonical head f         all of it
@@ -36,6 +37,12 @@ Shift false z = z ≡ pos 0
 
 abbrev pub Shifts : ℕ → List ℤ → Type 0
 Shifts m shifts = (i : ℕ) → i < most_rows → Shift (ltb i m) (shift_at shifts i)
+
+-- All of the numbers beside F, but that p is a prime.
+pub record Numbers (head : Head) : Type 0 where
+  pub sized : Sized head.p head.m head.n
+  pub orders_in : Orders head.n head.orders
+  pub shifts_in : Shifts head.m head.shifts
 
 -- The entry whose coefficients start at `base` has d of them.
 pub record Row (p d : ℕ) (f : List ℕ) (base : ℕ) : Type 0 where

@@ -2,20 +2,20 @@
 // may hand in anything, so that every number of the arrays is looked at, p included: no seal that the caller holds would spare the test of p.
 //
 // The tests go from the cheap to the dear, and each stands for a part of `Canonical` (specs/Canonical.antt).
-#![tactic(auto)]
+#![tactic(auto, unfolding(rules::specs::Sizes::most_rows, rules::specs::Sizes::most_order, rules::specs::Sizes::most_shift, rules::specs::Sizes::largest_prime, layout::specs::Flat::column_place))]
 
-ghost use Rattle.std.specs.Prelude.{◌≡◌, true, cond, ℕ, ◌+◌, ◌≤◌, ◌<◌, ltb, length};
+ghost use Rattle.std.specs.Prelude.{◌≡◌, ◌↔◌, true, ℕ, ◌*◌, ◌≤◌, ◌<◌, length, slice_index, EachIndex, IsTrue};
+ghost use Rattle.algebra.specs.Prime.{Prime};
 ghost use Rattle.rules.specs.Sizes.{most_rows, most_order};
 ghost use Rattle.rules.specs.Files.{read_problem};
 ghost use Rattle.rules.specs.Prepared.{Gives, Given};
-ghost use Rattle.layout.specs.Flat.{filled, column_coefficients};
+ghost use Rattle.layout.specs.Flat.{shift_at, filled, column_coefficients};
 ghost use Rattle.layout.specs.Settles.{Settles};
 ghost use Rattle.problem_file.specs.Values.{problem_value, with_columns};
 ghost use Rattle.prepared.specs.Form.{form_of};
-ghost use Rattle.prepared.specs.Canonical.{Below, Sized, Order, Orders, Shift, Shifts, Row, Rows, Column, Columns};
-ghost use Rattle.prepared.specs.Signs.{Between};
+ghost use Rattle.prepared.specs.Canonical.{Below, Sized, Order, Orders, Shift, Shifts, Numbers, Row, Rows, Column, Columns};
 
-use claim::Head;
+use claim::{Head, Problem};
 use layout::{COLUMN_COEFFICIENTS, ORDER, PRIME, ROWS, SHIFT};
 use primality::is_prime;
 use problem_file::{ProblemOutline, read_problem_into};
@@ -31,192 +31,124 @@ const HIGHEST: i32 = SHIFT as i32;
 
 const LOWEST: i32 = -HIGHEST;
 
-// x, limit: any numbers.
-// 0 if x is below the limit, else 1.
-fn one_from(x: u32, limit: u32) -> u32
-    ensures { result ≡ cond (ltb x limit) 0 1 }
-{
-    if x < limit { 0 } else { 1 }
-}
-
-// f: the coefficients of F. from, to: two places in it. limit: any number.
-// Whether the numbers from the one to the other are below the limit. The loop counts those that are not: it has no branch and nothing but
-// 32-bit numbers, so that it is done for four of them at once.
-fn all_below(f: &[u32], from: usize, to: usize, limit: u32) -> bool
-    requires from_le_to { (from ≤ to) × (to ≤ column_coefficients) }
-    requires f_len { length f.now ≡ column_coefficients }
-    ensures { Settles (Below f.now from to limit) result }
+// numbers: any. limit: any number.
+// Whether they are all below the limit. The loop counts those that are not: it has no branch and nothing but 32-bit numbers, so that it is
+// done for four of them at once.
+fn all_below(numbers: &[u32], limit: u32) -> bool
+    requires { length numbers.now ≤ column_coefficients }
+    ensures { Settles (Below numbers.now 0 (length numbers.now) limit) result }
 {
     let mut over: u32 = 0;
-    let mut x = from;
-    while x < to {
-        over += one_from(f[x], limit);
-        x += 1;
+    for x in numbers {
+        over += u32::from(*x >= limit);
     }
     over == 0
 }
 
-// f: the coefficients of F. from, to: two places in it.
-// Whether the numbers from the one to the other are all 0: their bits are put together, four numbers at once.
-fn zeros(f: &[u32], from: usize, to: usize) -> bool
-    requires from_le_to { (from ≤ to) × (to ≤ column_coefficients) }
-    requires f_len { length f.now ≡ column_coefficients }
-    ensures { Settles (Below f.now from to 1) result }
+// numbers: any.
+// Whether they are all 0: their bits are put together, four numbers at once.
+fn zeros(numbers: &[u32]) -> bool
+    ensures { Settles (Below numbers.now 0 (length numbers.now) 1) result }
 {
     let mut bits: u32 = 0;
-    let mut x = from;
-    while x < to {
-        bits |= f[x];
-        x += 1;
+    for x in numbers {
+        bits |= *x;
     }
     bits == 0
 }
 
-// v, most: any numbers.
-// Whether v is a size from 1 on.
-fn one_to(v: usize, most: usize) -> bool
-    ensures { Settles ((1 ≤ v) × (v ≤ most)) result }
+// head: any numbers.
+// Whether p, m and n are within their sizes.
+fn sizes_given(head: &Head) -> bool
+    ensures { Settles (Sized head.now.p head.now.m head.now.n) result }
 {
-    if v < 1 {
-        return false;
-    }
-    v <= most
+    (1..=ROWS).contains(&head.m) && (1..=ROWS).contains(&head.n) && head.p <= PRIME
 }
 
-// p, m, n: any numbers.
-// Whether they are within their sizes.
-fn sizes_given(p: u32, m: usize, n: usize) -> bool
-    ensures { Settles (Sized p m n) result }
+// orders: any numbers.
+// Whether they are orders.
+fn are_orders(orders: &[usize]) -> bool
+    ensures { IsTrue result ↔ EachIndex orders.now (λ j. Order true (slice_index orders.now j)) }
 {
-    if !one_to(m, ROWS) {
-        return false;
-    }
-    if !one_to(n, ROWS) {
-        return false;
-    }
-    p <= PRIME
-}
-
-// d: any number. used: whether there is a column for it.
-// Whether d is an order of the column, or 0 if there is none.
-fn order_given(d: usize, used: bool) -> bool
-    ensures { Settles (Order «used» d) result }
-{
-    if used { one_to(d, ORDER) } else { d == 0 }
+    orders.iter().all(|d| (1..=ORDER).contains(d))
 }
 
 // orders: any numbers. n: the columns.
 // Whether the first n are orders, and the others 0.
-fn orders_given(orders: [usize; ROWS], n: usize) -> bool
-    ensures { Settles (Orders n orders) result }
+fn orders_given(orders: &[usize; ROWS], n: usize) -> bool
+    requires { n ≤ most_rows }
+    ensures { Settles (Orders n orders.now) result }
 {
-    let mut j: usize = 0;
-    while j < ROWS {
-        if !order_given(orders[j], j < n) {
-            return false;
-        }
-        j += 1;
-    }
-    true
+    are_orders(&orders[..n]) && orders[n..].iter().all(|d| *d == 0)
 }
 
-// s, low, high: any numbers.
-// Whether s is neither below the one nor above the other.
-fn between(s: i32, low: i32, high: i32) -> bool
-    ensures { Settles (Between low high s) result }
+// shifts: any numbers.
+// Whether they are shifts.
+fn are_shifts(shifts: &[i32]) -> bool
+    ensures { IsTrue result ↔ ((i : ℕ) → i < length shifts.now → Shift true (shift_at shifts.now i)) }
 {
-    if s < low {
-        return false;
-    }
-    s <= high
-}
-
-// s: any number. used: whether there is a row for it.
-// Whether s is a shift of the row, or 0 if there is none.
-fn shift_given(s: i32, used: bool) -> bool
-    ensures { Settles (Shift «used» s) result }
-{
-    if used {
-        between(s, LOWEST, HIGHEST)
-    } else {
-        between(s, 0, 0)
-    }
+    shifts.iter().all(|s| (LOWEST..=HIGHEST).contains(s))
 }
 
 // shifts: any numbers. m: the rows.
 // Whether the first m are shifts, and the others 0.
-fn shifts_given(shifts: [i32; ROWS], m: usize) -> bool
-    ensures { Settles (Shifts m shifts) result }
+fn shifts_given(shifts: &[i32; ROWS], m: usize) -> bool
+    requires { m ≤ most_rows }
+    ensures { Settles (Shifts m shifts.now) result }
 {
-    let mut i: usize = 0;
-    while i < ROWS {
-        if !shift_given(shifts[i], i < m) {
-            return false;
-        }
-        i += 1;
-    }
-    true
+    are_shifts(&shifts[..m]) && shifts[m..].iter().all(|s| *s == 0)
 }
 
-// f: the coefficients of F. base: where those of an entry start. d: the order of its column. p: any number.
+// row: the coefficients of an entry of F. d: the order of its column. p: any number.
 // Whether the first d are below p, and the others 0.
-fn row_given(f: &[u32], base: usize, d: usize, p: u32) -> bool
-    requires d_le_most_order { (d ≤ most_order) × (base + most_order ≤ column_coefficients) }
-    requires f_len { length f.now ≡ column_coefficients }
-    ensures { Settles (Row p d f.now base) result }
+fn row_given(row: &[u32], d: usize, p: u32) -> bool
+    requires d_le_most_order { d ≤ most_order }
+    requires row_len { length row.now ≡ most_order }
+    ensures { Settles (Row p d row.now 0) result }
 {
-    if !all_below(f, base, base + d, p) {
-        return false;
-    }
-    zeros(f, base + d, base + ORDER)
+    all_below(&row[..d], p) && zeros(&row[d..])
 }
 
-// f: the coefficients of F. j: a column. m: the rows. d: the column's order. p: any number.
-// Whether each of the column's first m entries has d coefficients below p, and then zeros.
-fn rows_given(f: &[u32], j: usize, m: usize, d: usize, p: u32) -> bool
-    requires j_lt_most_rows { (j < most_rows) × ((m ≤ most_rows) × (d ≤ most_order)) }
-    requires f_len { length f.now ≡ column_coefficients }
-    ensures { Settles (Rows p m d f.now j) result }
+// column: the coefficients of a column of F. m: the rows. d: the column's order. p: any number.
+// Whether each of its first m entries has d coefficients below p, and then zeros.
+fn rows_given(column: &[u32], m: usize, d: usize, p: u32) -> bool
+    requires m_le_most_rows { (m ≤ most_rows) × (d ≤ most_order) }
+    requires column_len { length column.now ≡ most_rows * most_order }
+    ensures { Settles (Rows p m d column.now 0) result }
 {
-    let mut i: usize = 0;
-    while i < m {
-        if !row_given(f, (j * ROWS + i) * ORDER, d, p) {
+    for i in 0..m {
+        if !row_given(&column[i * ORDER..(i + 1) * ORDER], d, p) {
             return false;
         }
-        i += 1;
     }
     true
 }
 
-// f: the coefficients of F. j: a column. m: the rows. d: the column's order. p: any number.
+// column: the coefficients of a column of F. m: the rows. d: the column's order. p: any number.
 // Whether the column has m such entries, and then zeros.
-fn column_given(f: &[u32], j: usize, m: usize, d: usize, p: u32) -> bool
-    requires j_lt_most_rows { (j < most_rows) × ((m ≤ most_rows) × (d ≤ most_order)) }
-    requires f_len { length f.now ≡ column_coefficients }
-    ensures { Settles (Column p m d f.now j) result }
+fn column_given(column: &[u32], m: usize, d: usize, p: u32) -> bool
+    requires m_le_most_rows { (m ≤ most_rows) × (d ≤ most_order) }
+    requires column_len { length column.now ≡ most_rows * most_order }
+    ensures { Settles (Column p m d column.now 0) result }
 {
-    if !rows_given(f, j, m, d, p) {
-        return false;
-    }
-    zeros(f, (j * ROWS + m) * ORDER, (j + 1) * COLUMN)
+    rows_given(column, m, d, p) && zeros(&column[m * ORDER..])
 }
 
-// f: the coefficients of F. p: any number. m, n: the rows and the columns. orders: the orders.
+// problem: its sizes and its orders are given.
 // Whether F has n such columns, and then zeros.
-fn columns_given(f: &[u32], p: u32, m: usize, n: usize, orders: [usize; ROWS]) -> bool
-    requires m_le_most_rows { (m ≤ most_rows) × (n ≤ most_rows) }
-    requires orders { Orders n orders }
-    requires f_len { length f.now ≡ column_coefficients }
-    ensures { Settles (Columns p m n orders f.now) result }
+fn columns_given(problem: &Problem) -> bool
+    requires m_le_most_rows { (problem.now.head.m ≤ most_rows) × (problem.now.head.n ≤ most_rows) }
+    requires orders { Orders problem.now.head.n problem.now.head.orders }
+    ensures { Settles (Columns problem.now.head.p problem.now.head.m problem.now.head.n problem.now.head.orders problem.now.f) result }
 {
-    let mut j: usize = 0;
-    while j < n {
-        if !column_given(f, j, m, orders[j], p) {
+    let head = &problem.head;
+    for j in 0..head.n {
+        let column = &problem.f[j * COLUMN..(j + 1) * COLUMN];
+        if !column_given(column, head.m, head.orders[j], head.p) {
             return false;
         }
-        j += 1;
     }
-    zeros(f, n * COLUMN, COLUMN_COEFFICIENTS)
+    zeros(&problem.f[head.n * COLUMN..])
 }
 
 // problem: the problem file, of any bytes. f: all 0; where the coefficients of F go. They are all 0 again where the problem is refused.
@@ -229,30 +161,27 @@ pub fn prepare(problem: &[u8], f: &mut [u32; COLUMN_COEFFICIENTS]) -> ProblemOut
     read_problem_into(problem, f)
 }
 
-// head, f: any numbers.
-// Whether some problem file gives their form.
-pub fn given(head: Head, f: &[u32]) -> bool
-    requires { length f.now ≡ column_coefficients }
-    ensures { Settles (Given (form_of head f.now)) result }
+// head: any numbers.
+// Whether they are within their sizes, and 0 where nothing stands.
+fn numbers_given(head: &Head) -> bool
+    ensures { Settles (Numbers head.now) result }
 {
-    let m = head.m;
-    let n = head.n;
-    if !sizes_given(head.p, m, n) {
-        return false;
-    }
-    let orders = head.orders;
-    if !orders_given(orders, n) {
-        return false;
-    }
-    let shifts = head.shifts;
-    if !shifts_given(shifts, m) {
-        return false;
-    }
-    if !columns_given(f, head.p, m, n, orders) {
-        return false;
-    }
-    if head.p == BENCH_PRIME {
-        return true;
-    }
-    is_prime(head.p)
+    sizes_given(head) && orders_given(&head.orders, head.n) && shifts_given(&head.shifts, head.m)
+}
+
+// p: any number.
+// Whether it is a prime.
+fn prime_given(p: u32) -> bool
+    ensures { Settles (Prime p) result }
+{
+    p == BENCH_PRIME || is_prime(p)
+}
+
+// problem: any numbers.
+// Whether some problem file gives their form.
+pub fn given(problem: &Problem) -> bool
+    ensures { Settles (Given (form_of problem.now.head problem.now.f)) result }
+{
+    let head = &problem.head;
+    numbers_given(head) && columns_given(problem) && prime_given(head.p)
 }

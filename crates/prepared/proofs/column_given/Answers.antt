@@ -1,50 +1,15 @@
-use mathlib.Core.Path.{◌≡◌}
-use Prim.Native.Nat.{◌+◌, ◌*◌}
-use native.Mathlib.Omega.{arith}
+use Rattle.std.proofs.Common.{arith, length, ◌-◌, ◌*◌}
 use Rattle.rules.specs.Sizes.{most_rows, most_order}
 use Rattle.layout.specs.Flat.{column_place}
-use Rattle.prepared.specs.Settling.{settled_no, settled_by}
-use borrow.Author.Rules.{rules}
+use Rattle.prepared.specs.Settling.{settled_by}
+use Rattle.prepared.proofs.Parts.{below_part, length_part}
 use Rattle.prepared.proofs.column_given.Goals as goal
 
-pub rows_given-requires : goal.rows_given-requires
+pub returns-then-rows_given : goal.returns-then-rows_given
 unfolding column_place most_rows most_order
-rows_given-requires c = search rules
-
-pub returns-then-not-rows_given : goal.returns-then-not-rows_given
-unfolding column_place most_rows most_order
-returns-then-not-rows_given c = settled_no (λ h. c.rows_given.ensures.fails c.if-not-rows_given.true h.rows)
-
-pub overflow_mul-j : goal.overflow_mul-j
-unfolding column_place most_rows most_order
-overflow_mul-j c = search rules
-
-pub overflow_add-j : goal.overflow_add-j
-unfolding column_place most_rows most_order
-overflow_add-j c = search rules
-
-pub overflow_mul-j-2 : goal.overflow_mul-j-2
-unfolding column_place most_rows most_order
-overflow_mul-j-2 c = search rules
-
-pub overflow_add-j-2 : goal.overflow_add-j-2
-unfolding column_place most_rows most_order
-overflow_add-j-2 c = search rules
-
-pub overflow_mul-j-3 : goal.overflow_mul-j-3
-unfolding column_place most_rows most_order
-overflow_mul-j-3 c = search rules
-
-pub zeros-requires : goal.zeros-requires
-unfolding column_place most_rows most_order
-zeros-requires c = search rules
-
-pub returns : goal.returns
-unfolding column_place most_rows most_order
-returns c =
+returns-then-rows_given c =
     let a = c.args in
-    let rows = c.rows_given.ensures.holds c.if-not-rows_given.false in
-    let start : (a.j * 4 + a.m) * 16 ≡ column_place a.m a.j 0 = omega arith in
-    let end : (a.j + 1) * 64 ≡ column_place 0 (a.j + 1) 0 = omega arith in
-    settled_by (λ zeros. record { rows = rows; no_more = λ x lo hi. zeros x (omega arith) (omega arith) })
-    (λ h x lo hi. h.no_more x (omega arith) (omega arith)) c.zeros.ensures
+    let column = a.column.now in
+    let long = length_part (a.m * 16) (length column - a.m * 16) column (omega arith) in
+    let rest = below_part (a.m * 16) (length column - a.m * 16) 1 column (omega arith) (omega arith) (omega arith) in
+    settled_by (λ zeros. record { rows = c.rows_given.ensures.holds c.if-rows_given.true; no_more = rest.0 zeros }) (λ h. rest.1 h.no_more) c.zeros.ensures

@@ -1,66 +1,39 @@
-use Rattle.std.proofs.Common.{sym, subst, ◌∙◌}
-use mathlib.Core.Bool.{false≢true}
-use Rattle.algebra.specs.Prime.{Prime}
-use Rattle.laws.specs.FieldTests.{is_prime_iff}
-use Rattle.prepared.specs.Settling.{settled_yes, settled_no}
-use Rattle.prepared.specs.BenchPrime.{bench_prime}
+use Rattle.std.proofs.Common.{sym, ◌∙◌, rules}
+use Rattle.std.proofs.lemmas.Bool.{false≢true}
+use Rattle.prepared.specs.Canonical.{Numbers, Columns}
 use Rattle.prepared.specs.Given.{given_canonical}
 use Rattle.prepared.specs.Written.{canonical_given}
 use Rattle.prepared.proofs.given.Goals as goal
+use Rattle.prepared.proofs.given.Goals.{then-numbers_given, else-numbers_given}
 
--- Each part that fails shuts the form out, …
-pub returns-then-not-sizes_given : goal.returns-then-not-sizes_given
-returns-then-not-sizes_given c =
-    let a = c.args in
-    settled_no (λ g. c.sizes_given.ensures.fails c.if-not-sizes_given.true (given_canonical a.head a.f.now g).sized)
-
-pub returns-then-not-orders_given : goal.returns-then-not-orders_given
-returns-then-not-orders_given c =
-    let a = c.args in
-    settled_no (λ g. c.orders_given.ensures.fails c.if-not-orders_given.true (given_canonical a.head a.f.now g).orders_in)
-
-pub returns-then-not-shifts_given : goal.returns-then-not-shifts_given
-returns-then-not-shifts_given c =
-    let a = c.args in
-    settled_no (λ g. c.shifts_given.ensures.fails c.if-not-shifts_given.true (given_canonical a.head a.f.now g).shifts_in)
-
-pub columns_given-requires : goal.columns_given-requires
-columns_given-requires c =
-    let sizes = c.sizes_given.ensures.holds c.if-not-sizes_given.false in record {
-      m_le_most_rows = (sizes.rows_most, sizes.columns_most);
-      orders = c.orders_given.ensures.holds c.if-not-orders_given.false;
-      f_len = c.requires;
+-- With all the others it is p that settles it, …
+pub returns-then-columns_given : goal.returns-then-columns_given
+returns-then-columns_given c =
+    let b = c.args.problem.now in
+    let numbers : Numbers b.head = search rules in
+    let columns : Columns b.head.p b.head.m b.head.n b.head.orders b.f = search rules in
+    record {
+      holds = λ e. canonical_given b.head b.f (record {
+        sized = numbers.sized;
+        orders_in = numbers.orders_in;
+        shifts_in = numbers.shifts_in;
+        columns_in = columns;
+        prime = c.prime_given.ensures.holds e;
+      });
+      fails = λ e g. c.prime_given.ensures.fails e (given_canonical b.head b.f g).prime;
     }
 
-pub returns-then-not-columns_given : goal.returns-then-not-columns_given
-returns-then-not-columns_given c =
-    let a = c.args in
-    settled_no (λ g. c.columns_given.ensures.fails c.if-not-columns_given.true (given_canonical a.head a.f.now g).columns_in)
-
--- … and with all the others it is p that settles it: the prime of the bench jobs, …
-pub returns-then-head-eq-BENCH_PRIME : goal.returns-then-head-eq-BENCH_PRIME
-returns-then-head-eq-BENCH_PRIME c =
-    let a = c.args in
-    settled_yes
-    (canonical_given a.head a.f.now (record {
-      sized = c.sizes_given.ensures.holds c.if-not-sizes_given.false;
-      orders_in = c.orders_given.ensures.holds c.if-not-orders_given.false;
-      shifts_in = c.shifts_given.ensures.holds c.if-not-shifts_given.false;
-      columns_in = c.columns_given.ensures.holds c.if-not-columns_given.false;
-      prime = subst (λ p. Prime p) (sym c.if-head-eq-BENCH_PRIME.true) bench_prime;
-    }))
-
--- … or one that is tested.
-pub returns : goal.returns
-returns c =
-    let a = c.args in
+-- … and each part that fails shuts the form out.
+pub returns-else-columns_given : goal.returns-else-columns_given
+returns-else-columns_given c =
+    let b = c.args.problem.now in
     record {
-      holds = λ e. canonical_given a.head a.f.now (record {
-        sized = c.sizes_given.ensures.holds c.if-not-sizes_given.false;
-        orders_in = c.orders_given.ensures.holds c.if-not-orders_given.false;
-        shifts_in = c.shifts_given.ensures.holds c.if-not-shifts_given.false;
-        columns_in = c.columns_given.ensures.holds c.if-not-columns_given.false;
-        prime = (is_prime_iff a.head.p).0 (sym c.is_prime.ensures ∙ e);
-      });
-      fails = λ e g. false≢true (sym e ∙ c.is_prime.ensures ∙ (is_prime_iff a.head.p).1 (given_canonical a.head a.f.now g).prime);
+      holds = λ e. absurd (false≢true (sym c.if-columns_given.false ∙ e));
+      fails = λ e g.
+          let all = given_canonical b.head b.f g in
+          elim c.if-numbers_given.branch [
+            | then-numbers_given w ↦ w.columns_given.ensures.fails (sym w.value-is ∙ e) all.columns_in
+            | else-numbers_given w ↦ c.numbers_given.ensures.fails w.if-numbers_given.false
+                (record { sized = all.sized; orders_in = all.orders_in; shifts_in = all.shifts_in })
+          ];
     }
