@@ -1,5 +1,4 @@
 pub mod Settling
-pub mod Signs
 pub mod BenchPrime
 pub mod Form
 pub mod Canonical
