@@ -2,7 +2,6 @@
 --   longest, most_lent       the longest file of a case, and the most bytes lent
 --   part_fits                a part of a case's files is no longer
 --   chunk                    so many bytes are written in hex at a time
---   most_digits              the digits of the longest number
 use Rattle.std.specs.Prelude.{Bool, true, false, cond, List, ℕ, ◌≤◌, eqb, length, take, drop}
 use Rattle.std.proofs.Common.{arith, length-take, length-drop}
 use Rattle.rules.specs.Part.{Part, part_bytes}
@@ -15,9 +14,6 @@ most_lent = 4_096
 
 abbrev pub chunk : ℕ
 chunk = 2_048
-
-abbrev pub most_digits : ℕ
-most_digits = 10
 
 piece_fits : (a b : ℕ) (l : List ℕ) → length l ≤ longest → length (take a (drop b l)) ≤ longest
 piece_fits a b l h = simp (length-take, length-drop) (omega arith)

@@ -5,15 +5,17 @@
 // What is printed is tested.
 #![tactic(auto)]
 
-ghost use Rattle.std.specs.Prelude.{◌≡◌, ◌+◌, ◌*◌, ◌≤◌, ◌<◌, length};
-ghost use Rattle.cases.specs.Limits.{longest, most_lent, chunk, most_digits};
+ghost use Rattle.std.specs.Prelude.{◌*◌, ◌≤◌, IfOk, length};
+ghost use Rattle.cases.specs.Limits.{longest, most_lent, chunk};
 
+use line::{line, put_numbers};
+use loading::{with_argument, write_line};
 use std::env::Env;
 use std::fs::File;
 use std::io;
 use std::io::{Read, Write};
 use std::rt::Files;
-use verdict::{Four, numbers, reply_numbers};
+use verdict::{numbers, reply_numbers};
 use writer::{put_number, put_text};
 
 // The longest file of a case.
@@ -22,39 +24,37 @@ const LONGEST: usize = 65536;
 // The most bytes lent.
 const MOST_LENT: usize = 4096;
 
-// Longer than any name that the system takes.
-const ARGUMENT_ROOM: usize = 4096;
-
 // Room for the words and numbers that a line starts with.
-const HEAD: usize = 128;
+const HEAD: usize = 64;
 
 // So many bytes are written in hex at a time.
 const CHUNK: usize = 2048;
 
-// The smaller of two numbers.
-fn least(a: usize, b: usize) -> usize
-    ensures upper_bound { (result ≤ a) × (result ≤ b) }
-    ensures result_nonzero { 0 < a → 0 < b → 0 < result }
-{
-    if a < b { a } else { b }
+// The digits of hex, in lower case.
+const DIGITS: [u8; 16] = *b"0123456789abcdef";
+
+// Why no more cases are run.
+#[derive(Drop)]
+enum Stop {
+    // The bundle can't be opened or is cut, or a number is above its limit.
+    BadBundle,
+    // A line can't be written.
+    Unwritten(io::Error),
 }
 
-// The digit of `d` in hex, in lower case.
-fn glyph(d: u8) -> u8
-    requires { d < 16 }
-{
-    if d < 10 { 48 + d } else { 87 + d }
+impl From<io::Error> for Stop {
+    fn from(e: io::Error) -> Stop {
+        Stop::Unwritten(e)
+    }
 }
 
 // Puts the two digits of each byte at the front of `out`.
 fn spell(bytes: &[u8], out: &mut [u8])
     requires { length bytes.now * 2 ≤ length out.old }
 {
-    let mut i = 0;
-    while i < bytes.len() {
-        out[i * 2] = glyph(bytes[i] / 16);
-        out[i * 2 + 1] = glyph(bytes[i] % 16);
-        i += 1;
+    for (pair, b) in out.chunks_exact_mut(2).zip(bytes) {
+        pair[0] = DIGITS[usize::from(*b / 16)];
+        pair[1] = DIGITS[usize::from(*b % 16)];
     }
 }
 
@@ -62,74 +62,36 @@ fn spell(bytes: &[u8], out: &mut [u8])
 fn write_chunk(to: &mut impl Write, bytes: &[u8]) -> io::Result<()>
     requires { length bytes.now ≤ chunk }
 {
-    let mut text = [0u8; 2 * CHUNK];
+    let mut text = [0; 2 * CHUNK];
     spell(bytes, &mut text);
-    let n = bytes.len() * 2;
-    to.write_all(&text[..n])
+    to.write_all(&text[..2 * bytes.len()])
 }
 
-// Writes all of `bytes` in hex.
-fn write_hex(to: &mut impl Write, bytes: &[u8]) -> io::Result<()> {
-    let mut at = 0;
-    while at < bytes.len() {
-        let end = at + least(bytes.len() - at, CHUNK);
-        write_chunk(to, &bytes[at..end])?;
-        at = end;
+// Writes a line: `head`, and after a space `bytes` in hex, or nothing more where there are none.
+fn write_bytes(to: &mut impl Write, head: &[u8], bytes: &[u8]) -> io::Result<()> {
+    to.write_all(head)?;
+    if !bytes.is_empty() {
+        to.write_all(b" ")?;
     }
-    Ok(())
-}
-
-// Puts a space and the decimal digits of `n` at `at` and gives the place after them.
-fn put_spaced(out: &mut [u8], at: usize, n: u32) -> usize
-    requires { at + 1 + most_digits ≤ length out.old }
-    ensures { result ≤ at + 1 + most_digits }
-{
-    let next = put_text(out, at, b" ");
-    put_number(out, next, n)
-}
-
-// Puts each of the four numbers, after a space, at `at` and gives the place after them.
-fn put_four(out: &mut [u8], at: usize, v: Four) -> usize
-    requires { at + 4 * (1 + most_digits) ≤ length out.old }
-    ensures { result ≤ at + 4 * (1 + most_digits) }
-{
-    let code = put_spaced(out, at, v.code as u32);
-    let file = put_spaced(out, code, v.file as u32);
-    let record = put_spaced(out, file, v.number as u32);
-    put_spaced(out, record, v.at)
-}
-
-// Writes a line: the first `end` bytes of `head`, and after a space `bytes` in hex, or nothing more where there are none.
-fn write_line(to: &mut impl Write, head: &mut [u8], end: usize, bytes: &[u8]) -> io::Result<()>
-    requires { end < length head.old }
-{
-    if bytes.len() == 0 {
-        let n = put_text(head, end, b"\n");
-        return to.write_all(&head[..n]);
+    for chunk in bytes.chunks(CHUNK) {
+        write_chunk(to, chunk)?;
     }
-    let n = put_text(head, end, b" ");
-    to.write_all(&head[..n])?;
-    write_hex(to, bytes)?;
     to.write_all(b"\n")
 }
 
 // The line that `judge` prints.
 fn write_verdict(to: &mut impl Write, problem: &[u8], answer: &[u8]) -> io::Result<()> {
-    let mut space = [0u8; line::ROOM];
-    let v = numbers(judging::judge_files(problem, answer));
-    let end = line::line(v, &mut space);
-    to.write_all(&space[..end])
+    write_line(to, |out| line(numbers(judging::judge_files(problem, answer)), out))
 }
 
 // The line for the part that the verdict points at.
 fn write_part(to: &mut impl Write, part: &[u8]) -> io::Result<()>
     requires { length part.now ≤ longest }
 {
-    let mut space = [0u8; HEAD];
-    let head: &mut [u8] = &mut space;
-    let word = put_text(head, 0, b"part");
-    let end = put_spaced(head, word, part.len() as u32);
-    write_line(to, head, end, part)
+    let mut head = [0; HEAD];
+    let word = put_text(&mut head, 0, b"part ");
+    let end = put_number(&mut head, word, part.len() as u32);
+    write_bytes(to, &head[..end], part)
 }
 
 // The line for the evidence that is made in the bytes lent.
@@ -139,177 +101,84 @@ fn write_evidence(
     answer: &[u8],
     lent: &mut [u8],
 ) -> io::Result<()> {
-    let v = reply_numbers(making::evidence_files(problem, answer, lent));
-    let mut space = [0u8; HEAD];
-    let head: &mut [u8] = &mut space;
-    let word = put_text(head, 0, b"evidence");
-    let end = put_four(head, word, v);
-    write_line(to, head, end, lent)
+    let reply = making::evidence_files(problem, answer, lent);
+    let mut head = [0; HEAD];
+    let word = put_text(&mut head, 0, b"evidence ");
+    let end = put_numbers(&mut head, word, reply_numbers(reply));
+    write_bytes(to, &head[..end], lent)
 }
 
-// The bytes to lend, each 170.
-fn marked() -> [u8; MOST_LENT]
-    ensures { length result ≡ most_lent }
-{
-    [170; MOST_LENT]
-}
-
-// The three lines of a case.
+// The three lines of a case. Each of the bytes lent is 170.
 fn write_case<'a>(
     to: &mut impl Write,
     problem: &'a [u8],
     answer: &'a [u8],
     lent: usize,
 ) -> io::Result<()>
-    requires problem_len_bound { (length problem.now ≤ longest) × (length answer.now ≤ longest) }
-    requires lent_le_most_lent { lent ≤ most_lent }
+    requires files_short { (length problem.now ≤ longest) × (length answer.now ≤ longest) }
+    requires lent_short { lent ≤ most_lent }
 {
     write_verdict(to, problem, answer)?;
     write_part(to, part::pointed_at(problem, answer))?;
-    let mut space = marked();
-    write_evidence(to, problem, answer, &mut space[..lent])
+    let mut buffer = [170; MOST_LENT];
+    write_evidence(to, problem, answer, &mut buffer[..lent])
 }
 
-// A byte as a number.
-fn wide(x: u8) -> usize
-    ensures { result < 256 }
+// Reads as many bytes of the bundle as `out` has.
+fn fill(from: &mut impl Read, out: &mut [u8]) -> Result<(), Stop> {
+    from.read_exact(out).map_err(|_| Stop::BadBundle)
+}
+
+// Reads a number of the bundle, which may be at most `most`.
+fn number(from: &mut impl Read, most: usize) -> Result<usize, Stop>
+    ensures { IfOk result (λ n. n ≤ most) }
 {
-    x as usize
+    let mut bytes = [0; 4];
+    fill(from, &mut bytes)?;
+    let n = u32::from_le_bytes(bytes) as usize;
+    if n > most { Err(Stop::BadBundle) } else { Ok(n) }
 }
 
-// The number of four bytes at `at`.
-fn number(bytes: &[u8], at: usize) -> usize
-    requires { at + 4 ≤ length bytes.now }
-{
-    let low = wide(bytes[at]) + wide(bytes[at + 1]) * 256;
-    let high = wide(bytes[at + 2]) + wide(bytes[at + 3]) * 256;
-    low + high * 65536
-}
-
-// Reads the next `out.len()` bytes of the bundle, and answers whether they are all there.
-fn fill(from: &mut impl Read, out: &mut [u8]) -> bool {
-    let mut done = 0;
-    while done < out.len() {
-        match from.read(&mut out[done..]) {
-            Ok(0) => return false,
-            Ok(n) => done += n,
-            Err(_) => return false,
-        }
-    }
-    true
-}
-
-// Runs a case whose three numbers are given, and answers whether its lengths are allowed and its files are all there.
-fn run_files(
-    from: &mut impl Read,
-    to: &mut impl Write,
-    problem: &mut [u8],
-    answer: &mut [u8],
-    m: usize,
-    n: usize,
-    lent: usize,
-) -> io::Result<bool>
-    requires { (longest ≤ length problem.old) × (longest ≤ length answer.old) }
-{
-    if m > LONGEST {
-        return Ok(false);
-    }
-    if n > LONGEST {
-        return Ok(false);
-    }
-    if lent > MOST_LENT {
-        return Ok(false);
-    }
-    if !fill(from, &mut problem[..m]) {
-        return Ok(false);
-    }
-    if !fill(from, &mut answer[..n]) {
-        return Ok(false);
-    }
-    write_case(to, &problem[..m], &answer[..n], lent)?;
-    Ok(true)
-}
-
-// Runs the next case, and answers whether it is whole and allowed.
+// Runs the next case, for whose files there is room.
 fn run_case(
     from: &mut impl Read,
     to: &mut impl Write,
-    problem: &mut [u8],
-    answer: &mut [u8],
-) -> io::Result<bool>
-    requires { (longest ≤ length problem.old) × (longest ≤ length answer.old) }
-{
-    let mut space = [0u8; 12];
-    let numbers: &mut [u8] = &mut space;
-    if !fill(from, numbers) {
-        return Ok(false);
-    }
-    let m = number(numbers, 0);
-    let n = number(numbers, 4);
-    let lent = number(numbers, 8);
-    run_files(from, to, problem, answer, m, n, lent)
+    problem: &mut [u8; LONGEST],
+    answer: &mut [u8; LONGEST],
+) -> Result<(), Stop> {
+    let m = number(from, LONGEST)?;
+    let n = number(from, LONGEST)?;
+    let lent = number(from, MOST_LENT)?;
+    fill(from, &mut problem[..m])?;
+    fill(from, &mut answer[..n])?;
+    write_case(to, &problem[..m], &answer[..n], lent)?;
+    Ok(())
 }
 
-// Runs the next `count` cases, and answers whether they are all whole and allowed.
-fn run_cases(
-    from: &mut impl Read,
-    to: &mut impl Write,
-    problem: &mut [u8],
-    answer: &mut [u8],
-    count: usize,
-) -> io::Result<bool>
-    requires { (longest ≤ length problem.old) × (longest ≤ length answer.old) }
-{
-    let mut i = 0;
-    while i < count {
-        if !run_case(from, to, problem, answer)? {
-            return Ok(false);
-        }
-        i += 1;
+// Runs the bundle that is open.
+fn run_bundle(from: &mut impl Read, to: &mut impl Write) -> Result<(), Stop> {
+    let count = number(from, u32::MAX as usize)?;
+    let mut problem = [0; LONGEST];
+    let mut answer = [0; LONGEST];
+    for _ in 0..count {
+        run_case(from, to, &mut problem, &mut answer)?;
     }
-    Ok(true)
+    Ok(())
 }
 
-// Runs the bundle that is open, and answers whether it is whole and allowed.
-fn run_bundle(from: &mut impl Read, to: &mut impl Write) -> io::Result<bool> {
-    let mut space = [0u8; 4];
-    let numbers: &mut [u8] = &mut space;
-    if !fill(from, numbers) {
-        return Ok(false);
-    }
-    let count = number(numbers, 0);
-    let mut problem = [0u8; LONGEST];
-    let mut answer = [0u8; LONGEST];
-    run_cases(from, to, &mut problem, &mut answer, count)
-}
-
-// Opens the file that the first argument names, and answers `None` where it can't be opened. A name that is no text counts as one of no file.
-fn open_bundle<R: Env + Files>(rt: &R) -> Option<R::File> {
-    let mut name = [0u8; ARGUMENT_ROOM];
-    let Ok(k) = rt.arg(1, &mut name) else {
-        return None;
-    };
-    let Ok(text) = str::from_utf8(&name[..k]) else {
-        return None;
-    };
-    match File::open(rt, text) {
-        Ok(file) => Some(file),
-        Err(_) => None,
-    }
-}
-
-// Runs the bundle that the first argument names, and answers whether it can be opened, is whole and is allowed.
-fn run(rt: &(impl Env + Files), to: &mut impl Write) -> io::Result<bool> {
-    match open_bundle(rt) {
+// Runs the bundle that the first argument names.
+fn run(rt: &(impl Env + Files), to: &mut impl Write) -> Result<(), Stop> {
+    match with_argument(rt, 1, |name| File::open(rt, name).ok()) {
         Some(mut bundle) => run_bundle(&mut bundle, to),
-        None => Ok(false),
+        None => Err(Stop::BadBundle),
     }
 }
 
 fn main(rt: HostRuntime) -> io::Result<()> {
     let mut to = io::writer(&rt);
-    if !run(&rt, &mut to)? {
-        to.write_all(b"bad bundle\n")?;
+    match run(&rt, &mut to) {
+        Err(Stop::BadBundle) => to.write_all(b"bad bundle\n"),
+        Err(Stop::Unwritten(e)) => Err(e),
+        Ok(()) => Ok(()),
     }
-    Ok(())
 }

@@ -23,7 +23,7 @@ fn put_spaced(out: &mut [u8], at: usize, n: u32) -> usize
 }
 
 // Puts the four numbers of a refusal, with single spaces, at `at` and gives the place after them.
-fn put_numbers(out: &mut [u8], at: usize, v: Four) -> usize
+pub fn put_numbers(out: &mut [u8], at: usize, v: Four) -> usize
     requires { at + numbers_room ≤ length out.old }
     ensures { Appended out.old out.new at result (four_numbers (four v.code v.file v.number v.at)) }
 {

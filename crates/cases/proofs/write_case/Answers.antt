@@ -5,4 +5,4 @@ use Rattle.cases.proofs.write_case.Goals as goal
 pub write_part-requires : goal.write_part-requires
 write_part-requires g c =
     rw c.pointed_at.ensures.bytes
-    (part_fits c.args.problem.now c.args.answer.now _ c.requires.problem_len_bound.0 c.requires.problem_len_bound.1)
+    (part_fits c.args.problem.now c.args.answer.now _ c.requires.files_short.0 c.requires.files_short.1)
