@@ -1,12 +1,12 @@
 -- What the code finds, and what the tests over the arrays say of the claim that they stand for: one law for each code.
---   finding                  a finding of the code in the words of the rules
---   fault_place, fault_nowhere, fault_somewhere    the place that a search finds
+--   found                    what a test of the code found, in the words of the rules
+--   fault_place, fault_found       the place that a search found
 --   found-…                  the verdict of a code, where its test over the arrays says so, applies to the claim
 --   Tried                    no code before this one applies
-use Rattle.std.specs.Prelude.{◌≡◌, refl, Bool, true, false, not, List, ℕ, suc, ◌+◌, ◌-◌, ◌≤◌, ◌<◌, ℤ}
+use Rattle.std.specs.Prelude.{◌≡◌, Bool, true, false, not, ℕ, suc, ◌+◌, ◌-◌, ◌≤◌, ◌<◌, ℤ}
 use Rattle.std.proofs.Math.Path.{sym, ap}
-use Rattle.std.proofs.Common.{ap₂, ◌∙◌, arith}
-use Rattle.std.specs.Prelude.{Option, None, Some}
+use Rattle.std.proofs.Common.{◌∙◌, arith}
+use Rattle.std.specs.Prelude.{Option, None, Some, IfSome, MatchOption, Result, Ok, Err}
 use Rattle.algebra.specs.Residue.{K}
 use Rattle.algebra.proofs.Series.{Series}
 use Rattle.algebra.specs.Det.{det}
@@ -17,93 +17,85 @@ use Rattle.rules.specs.Conditions.{degree_sum_of, first_place}
 use Rattle.rules.specs.Verdict.{Verdict, not_reduced, not_monomial, below_order, at_order, low_rank, pass_with, judge_claim}
 use Rattle.laws.specs.SearchLaws.{first_place_some}
 use Rattle.verdict.specs.Meant.{meant}
+use Rattle.verdict.specs.declared.Fault.{Fault}
 use Rattle.field.specs.declared.Modulus.{Modulus}
 use Rattle.field.specs.Modulus.{modulus_of}
 use Rattle.layout.specs.Flat.{length_at, shift_at, cells}
 use Rattle.layout.specs.Settles.{Settles}
-use Rattle.claim.specs.declared.Head.{Head}
-use Rattle.claim.specs.Claims.{claim_of}
-use Rattle.claim.specs.Sound.{Sound}
+use Rattle.claim.specs.declared.Problem.{Problem}
+use Rattle.claim.specs.declared.Answer.{Answer}
+use Rattle.claim.specs.Claims.{claim_in}
+use Rattle.claim.specs.Sound.{SoundClaim}
 use Rattle.degrees.specs.Claims.{degree_sum_rules}
 use Rattle.product.specs.Claims.{first_low_place, first_order_place}
-use Rattle.product.specs.Faults.{flat_low_fault, flat_order_fault, place_of}
-use Rattle.product.specs.declared.fault.FirstFault.{FirstFault}
-use Rattle.product.specs.declared.fault.FirstFault.TheVariants.{At, Nowhere}
-use Rattle.conditions.specs.Applies.{applies, fault_if, fault_at, first_applying, judged_in_order, applies_none, applying_first, applying_later}
+use Rattle.product.specs.Faults.{flat_low_fault, flat_order_fault}
+use Rattle.conditions.specs.Applies.{applies, fault_if, fault_at, first_applying, judged_in_order, applying_first, applying_later}
 use Rattle.conditions.specs.Steps.{leading_grid, rank_grid, reduced_of, monomial_of, rank_of}
-use Rattle.conditions.specs.declared.Finding.{Finding}
-use Rattle.conditions.specs.declared.Finding.TheVariants.{Fault, Nothing}
 
-abbrev pub finding : Finding → Option Verdict
-finding (Fault v) = Some (meant v)
-finding Nothing = None
+-- What a test of the code found, in the words of the rules.
+abbrev pub found : Result (Unit {0}) Fault → Option Verdict
+found (Ok u) = None
+found (Err fault) = Some (meant (Err fault))
 
--- A place that was found, and none.
-place_some : (o : Option (ℕ × ℕ)) (i j : ℕ) → place_of o ≡ At i j → o ≡ Some (i, j)
-place_some None i j e = cc
-place_some (Some (a, b)) i j e =
-    let row : a ≡ i = cc in
-    let column : b ≡ j = cc in
-    ap₂ (λ u v. Some (u, v)) row column
+-- The place that a search found is a row and a column, and the fault that is found there is the one of that place.
+module _ (m n : ℕ) (faults : ℕ → ℕ → Bool) where
+  pub fault_place : (bound : ℕ) → m ≤ bound → n ≤ bound → (place : Option (ℕ × ℕ)) → place ≡ first_place m n faults
+      → IfSome place (λ at. (at.0 < bound) × (at.1 < bound))
+  fault_place bound hm hn None e = tt
+  fault_place bound hm hn (Some (i, j)) e = let f = (first_place_some m n faults i j).0 (sym e) in (omega (arith, f.row), omega (arith, f.column))
 
-place_none : (o : Option (ℕ × ℕ)) → place_of o ≡ Nowhere → o ≡ None
-place_none None e = refl
-place_none (Some (a, b)) e = cc
-
-module _ (m n : ℕ) (faults : ℕ → ℕ → Bool) (at : FirstFault) (e : at ≡ place_of (first_place m n faults)) where
-  -- The place of a fault is a row and a column.
-  pub fault_place : (i j : ℕ) → at ≡ At i j → (i < m) × (j < n)
-  fault_place i j h = let f = (first_place_some m n faults i j).0 (place_some (first_place m n faults) i j (sym e ∙ h)) in (f.row, f.column)
-
-  module _ (v : ℕ → ℕ → Verdict) where
-    pub fault_nowhere : at ≡ Nowhere → None ≡ fault_at v (first_place m n faults)
-    fault_nowhere h = sym (ap (fault_at v) (place_none (first_place m n faults) (sym e ∙ h)))
-
-    pub fault_somewhere : (i j : ℕ) → at ≡ At i j → Some (v i j) ≡ fault_at v (first_place m n faults)
-    fault_somewhere i j h = sym (ap (fault_at v) (place_some (first_place m n faults) i j (sym e ∙ h)))
+  pub fault_found : (v : ℕ → ℕ → Verdict) (place : Option (ℕ × ℕ)) → place ≡ first_place m n faults → (r : Result (Unit {0}) Fault)
+      → MatchOption place (r ≡ Ok tt) (λ at. (fault : Fault) × (r ≡ Err fault) × (meant (Err fault) ≡ v at.0 at.1))
+      → found r ≡ fault_at v (first_place m n faults)
+  fault_found v None e r h = ap found h ∙ ap (fault_at v) e
+  fault_found v (Some at) e r (fault, is, means) = ap found is ∙ ap Some means ∙ ap (fault_at v) e
 
 turned : (b r : Bool) → b ≡ not r → r ≡ not b
 turned b true e = sym (ap not e)
 turned b false e = sym (ap not e)
 
-module _ (head : Head) (f lengths entries c : List ℕ) (sound : Sound head f lengths entries c) where
-  pub found_not_reduced : (r : Bool) → Settles (det (K head.p) head.m (leading_grid head lengths entries) ≡ (K head.p).𝟘) r
-      → fault_if r not_reduced ≡ applies 9 (claim_of head f lengths entries c)
-  unfolding applies
-  found_not_reduced r s = ap (λ b. fault_if b not_reduced) (turned _ r (reduced_of head f lengths entries sound.sound_head sound.sound_basis r s))
+-- Where no code applies the degree sum decides.
+pub all_found : (b : Problem) (a : Answer) (sum : Option ℤ) → sum ≡ degree_sum_of b.head.m (length_at a.basis.lengths) (shift_at b.head.shifts)
+    → pass_with sum ≡ first_applying 0 14 (claim_in b a)
+unfolding first_applying
+all_found b a sum es = ap pass_with (es ∙ degree_sum_rules b.head b.f a.basis.lengths a.basis.entries)
 
-  pub found_not_monomial : (r : Bool) {μ : Modulus} → μ ≡ modulus_of head.p
-      → Settles (Monomial (K μ.p) (det (Series (K μ.p)) head.m (cells μ.p entries))) r
-      → fault_if (not r) not_monomial ≡ applies 10 (claim_of head f lengths entries c)
+module _ (b : Problem) (a : Answer) (sound : SoundClaim b a) where
+  pub found_not_reduced : (r : Bool)
+      → Settles (det (K b.head.p) b.head.m (leading_grid b.head a.basis.lengths a.basis.entries) ≡ (K b.head.p).𝟘) r
+      → fault_if r not_reduced ≡ applies 9 (claim_in b a)
   unfolding applies
-  found_not_monomial r e s = sym (ap (λ b. fault_if (not b) not_monomial) (monomial_of head f lengths entries sound.sound_head sound.sound_basis r e s))
+  found_not_reduced r s =
+      ap (λ t. fault_if t not_reduced)
+      (turned _ r (reduced_of b.head b.f a.basis.lengths a.basis.entries sound.sound_head sound.sound_basis r s))
 
-  pub found_below : fault_at below_order (first_place head.m head.n (flat_low_fault head f entries)) ≡ applies 11 (claim_of head f lengths entries c)
+  pub found_not_monomial : (r : Bool) {μ : Modulus} → μ ≡ modulus_of b.head.p
+      → Settles (Monomial (K μ.p) (det (Series (K μ.p)) b.head.m (cells μ.p a.basis.entries))) r
+      → fault_if (not r) not_monomial ≡ applies 10 (claim_in b a)
   unfolding applies
-  found_below = ap (fault_at below_order) (first_low_place head f lengths entries sound.sound_head sound.sound_columns sound.sound_basis)
+  found_not_monomial r e s =
+      sym (ap (λ t. fault_if (not t) not_monomial)
+      (monomial_of b.head b.f a.basis.lengths a.basis.entries sound.sound_head sound.sound_basis r e s))
 
-  pub found_at : fault_at at_order (first_place head.m head.n (flat_order_fault head f entries c)) ≡ applies 12 (claim_of head f lengths entries c)
+  pub found_below : fault_at below_order (first_place b.head.m b.head.n (flat_low_fault b.head b.f a.basis.entries)) ≡ applies 11 (claim_in b a)
   unfolding applies
-  found_at = ap (fault_at at_order) (first_order_place head f lengths entries sound.sound_head sound.sound_columns sound.sound_basis c)
+  found_below =
+      ap (fault_at below_order) (first_low_place b.head b.f a.basis.lengths a.basis.entries sound.sound_head sound.sound_columns sound.sound_basis)
 
-  pub found_low_rank : (r : Bool) → Settles (Dependent (K head.p) head.m (head.m + head.n) (rank_grid head entries c)) r
-      → fault_if r low_rank ≡ applies 13 (claim_of head f lengths entries c)
+  pub found_at : fault_at at_order (first_place b.head.m b.head.n (flat_order_fault b.head b.f a.basis.entries a.c)) ≡ applies 12 (claim_in b a)
   unfolding applies
-  found_low_rank r s = sym (ap (λ b. fault_if b low_rank) (rank_of head f lengths entries sound.sound_head sound.sound_basis c r s))
+  found_at =
+      ap (fault_at at_order)
+      (first_order_place b.head b.f a.basis.lengths a.basis.entries sound.sound_head sound.sound_columns sound.sound_basis a.c)
 
-  pub all_found : (sum : Option ℤ) → sum ≡ degree_sum_of head.m (length_at lengths) (shift_at head.shifts)
-      → pass_with sum ≡ first_applying 0 14 (claim_of head f lengths entries c)
-  unfolding first_applying
-  all_found sum es = ap pass_with (es ∙ degree_sum_rules head f lengths entries)
+  pub found_low_rank : (r : Bool)
+      → Settles (Dependent (K b.head.p) b.head.m (b.head.m + b.head.n) (rank_grid b.head a.basis.entries a.c)) r
+      → fault_if r low_rank ≡ applies 13 (claim_in b a)
+  unfolding applies
+  found_low_rank r s =
+      sym (ap (λ t. fault_if t low_rank) (rank_of b.head b.f a.basis.lengths a.basis.entries sound.sound_head sound.sound_basis a.c r s))
 
 module _ (c : Claim) where
-  -- What is found for a code, as the code's function gives it.
-  pub found_as : {code k : ℕ} {r o : Option Verdict} → code ≡ k → r ≡ o → o ≡ applies k c → r ≡ applies code c
-  found_as e h g = h ∙ g ∙ ap (λ i. applies i c) (sym e)
-
-  pub found_nothing : (code : ℕ) → ¬ (code ≡ 9) → ¬ (code ≡ 10) → ¬ (code ≡ 11) → ¬ (code ≡ 12) → ¬ (code ≡ 13) → None ≡ applies code c
-  found_nothing code h9 h10 h11 h12 h13 = sym (applies_none c code h9 h10 h11 h12 h13)
-
   -- The codes from 9 up to this one are tried, and none before it applies.
   pub record Tried (code : ℕ) : Type 0 where
     pub most : code ≤ 14

@@ -1,167 +1,119 @@
 // The four conditions of document 01, on a claim that lies in arrays.
-#![tactic(auto)]
+#![tactic(auto, unfolding(rules::specs::Sizes::most_rows))]
 
-ghost use Rattle.std.specs.Prelude.{◌≡◌, ◌+◌};
-ghost use Rattle.algebra.specs.Residue.{K};
-ghost use Rattle.algebra.specs.Det.{det};
-ghost use Rattle.algebra.specs.Dependence.{Dependent};
-ghost use Rattle.rules.specs.Conditions.{first_place};
-ghost use Rattle.rules.specs.Verdict.{below_order, at_order, judge_claim};
+ghost use Rattle.std.specs.Prelude.{◌≡◌, ◌<◌, Err, MatchOption, IfSome, Ok};
+ghost use Rattle.rules.specs.Sizes.{most_rows};
+ghost use Rattle.rules.specs.Verdict.{judge_claim};
 ghost use Rattle.verdict.specs.Meant.{meant};
 ghost use Rattle.field.specs.Modulus.{modulus_of};
-ghost use Rattle.layout.specs.Holds.{Each};
-ghost use Rattle.layout.specs.Settles.{Settles};
-ghost use Rattle.claim.specs.Claims.{claim_of};
-ghost use Rattle.claim.specs.Sound.{SoundHead, SoundColumns, SoundBasis, Sound};
-ghost use Rattle.product.specs.Faults.{flat_low_fault, flat_order_fault};
-ghost use Rattle.conditions.specs.Applies.{applies, fault_if, fault_at};
-ghost use Rattle.conditions.specs.Steps.{leading_grid, rank_grid};
-ghost use Rattle.conditions.specs.Findings.{finding};
+ghost use Rattle.claim.specs.Claims.{claim_in};
+ghost use Rattle.claim.specs.Sound.{SoundClaim};
+ghost use Rattle.conditions.specs.Applies.{applies, fault_if};
+ghost use Rattle.conditions.specs.Findings.{found};
 
-use claim::Head;
-use degrees::{Degree, degree_sum, not_negative};
+use claim::{Answer, Problem};
+use degrees::{degree_sum, not_negative};
 use determinant::determinant_of;
 use elimination::{dependent, singular};
 use field::{Modulus, modulus_of};
-use layout::{COLUMN_COEFFICIENTS, ENTRY_COEFFICIENTS, SQUARE};
 use matrix::leading::leading_matrix;
 use matrix::rank::rank_matrix;
 use polynomial::is_monomial;
-use product::fault::{FirstFault, first_low_fault, first_order_fault};
-use verdict::Verdict;
+use product::fault::{first_low_fault, first_order_fault};
+use verdict::{Fault, Verdict};
 
-// What a claim is refused for, or nothing.
-#[derive(Clone, Copy)]
-enum Finding {
-    Fault(Verdict),
-    Nothing,
+// applies: whether a condition is broken. fault: what is found then.
+// The fault, where it applies.
+fn refuse_if(applies: bool, fault: Fault) -> Result<(), Fault>
+    ensures { found result ≡ fault_if applies (meant (Err fault)) }
+{
+    if applies { Err(fault) } else { Ok(()) }
 }
 
-// 9: whether the leading matrix has determinant 0.
-fn not_reduced<'a>(
-    head: Head,
-    lengths: &'a [usize; SQUARE],
-    entries: &'a [u32; ENTRY_COEFFICIENTS],
-) -> bool
-    requires { SoundHead head × SoundBasis head lengths.now entries.now }
-    ensures { Settles (det (K head.p) head.m (leading_grid head lengths.now entries.now) ≡ (K head.p).𝟘) result }
+// place: of a fault, its row and its column, or none. fault: what is found in a row and a column.
+// The fault at the place, where there is one.
+fn refuse_at<F: FnOnce(u16, u32) -> Fault>(
+    place: Option<(usize, usize)>,
+    fault: F,
+) -> Result<(), Fault>
+    requires within { IfSome place (λ at. (at.0 < most_rows) × (at.1 < most_rows)) }
+    requires callable { F.IsAlwaysCallable fault }
+    ensures { MatchOption place (result ≡ Ok tt) (λ at. (refused : _) × (result ≡ Err refused) × F.post fault at.0 at.1 refused) }
 {
-    singular(leading_matrix(head, lengths, entries), head.p, head.m)
-}
-
-// 11: the first place of a fault below the orders.
-fn below_order<'a>(
-    head: Head,
-    modulus: Modulus,
-    f: &'a [u32; COLUMN_COEFFICIENTS],
-    lengths: &'a [usize; SQUARE],
-    entries: &'a [u32; ENTRY_COEFFICIENTS],
-) -> Finding
-    requires sound_head { SoundHead head × (SoundColumns head f.now × SoundBasis head lengths.now entries.now) }
-    requires modulus_value { modulus ≡ modulus_of head.p }
-    ensures { finding result ≡ fault_at below_order (first_place head.m head.n (flat_low_fault head f.now entries.now)) }
-{
-    let FirstFault::At(i, j) = first_low_fault(head, modulus, f, lengths, entries) else {
-        return Finding::Nothing;
-    };
-    let row = i as u16;
-    let column = j as u32;
-    Finding::Fault(Verdict::BelowOrder(row, column))
-}
-
-// 12: the first place of a fault at the orders.
-fn at_order<'a>(
-    head: Head,
-    modulus: Modulus,
-    f: &'a [u32; COLUMN_COEFFICIENTS],
-    lengths: &'a [usize; SQUARE],
-    entries: &'a [u32; ENTRY_COEFFICIENTS],
-    c: &'a [u32; SQUARE],
-) -> Finding
-    requires sound_head { SoundHead head × (SoundColumns head f.now × SoundBasis head lengths.now entries.now) }
-    requires modulus_value { modulus ≡ modulus_of head.p }
-    ensures { finding result ≡ fault_at at_order (first_place head.m head.n (flat_order_fault head f.now entries.now c.now)) }
-{
-    let FirstFault::At(i, j) = first_order_fault(head, modulus, f, lengths, entries, c) else {
-        return Finding::Nothing;
-    };
-    let in_row = i as u16;
-    let in_column = j as u32;
-    Finding::Fault(Verdict::AtOrder(in_row, in_column))
-}
-
-// 13: whether the rank of [P(0) C] is below m.
-fn low_rank<'a>(head: Head, entries: &'a [u32; ENTRY_COEFFICIENTS], c: &'a [u32; SQUARE]) -> bool
-    requires { SoundHead head × (Each head.p entries.now × Each head.p c.now) }
-    ensures { Settles (Dependent (K head.p) head.m (head.m + head.n) (rank_grid head entries.now c.now)) result }
-{
-    dependent(
-        rank_matrix(head, entries, c),
-        head.p,
-        head.m,
-        head.m + head.n,
-    )
-}
-
-// The verdict, where it applies.
-fn fault_if(applies: bool, v: Verdict) -> Finding
-    ensures { finding result ≡ fault_if applies (meant v) }
-{
-    if applies {
-        Finding::Fault(v)
-    } else {
-        Finding::Nothing
+    match place {
+        Some((i, j)) => Err(fault(i as u16, j as u32)),
+        None => Ok(()),
     }
 }
 
-// The verdict of that code, where it applies. None but those of 9 to 13 is for a claim.
-fn applying<'a>(
-    code: u8,
-    head: Head,
-    modulus: Modulus,
-    f: &'a [u32; COLUMN_COEFFICIENTS],
-    lengths: &'a [usize; SQUARE],
-    entries: &'a [u32; ENTRY_COEFFICIENTS],
-    c: &'a [u32; SQUARE],
-) -> Finding
-    requires sound { Sound head f.now lengths.now entries.now c.now }
-    requires modulus_value { modulus ≡ modulus_of head.p }
-    ensures { finding result ≡ applies code (claim_of head f.now lengths.now entries.now c.now) }
+// problem, answer: of a claim.
+// 9: where the leading matrix has determinant 0.
+fn check_leading_matrix(problem: &Problem, answer: &Answer) -> Result<(), Fault>
+    requires sound { SoundClaim problem.now answer.now }
+    ensures { found result ≡ applies 9 (claim_in problem.now answer.now) }
 {
-    match code {
-        9 => fault_if(not_reduced(head, lengths, entries), Verdict::NotReduced),
-        10 => fault_if(
-            !is_monomial(determinant_of(entries, lengths, modulus, head.m)),
-            Verdict::NotMonomial,
-        ),
-        11 => below_order(head, modulus, f, lengths, entries),
-        12 => at_order(head, modulus, f, lengths, entries, c),
-        13 => fault_if(low_rank(head, entries, c), Verdict::LowRank),
-        _ => Finding::Nothing,
-    }
+    let leading = leading_matrix(&problem.head, &answer.basis);
+    let is_singular = singular(leading, problem.head.p, problem.head.m);
+    refuse_if(is_singular, Fault::NotReduced)
 }
 
-// The verdict on a claim that was read: "The first that applies is given, … then 9 to 13 by number."
-pub fn conditions<'a>(
-    head: Head,
-    f: &'a [u32; COLUMN_COEFFICIENTS],
-    lengths: &'a [usize; SQUARE],
-    entries: &'a [u32; ENTRY_COEFFICIENTS],
-    c: &'a [u32; SQUARE],
-) -> Verdict
-    requires { Sound head f.now lengths.now entries.now c.now }
-    ensures { meant result ≡ judge_claim (claim_of head f.now lengths.now entries.now c.now) }
+// problem, modulus, answer: of a claim.
+// 10: where the determinant is no nonzero constant times a power of X.
+fn check_determinant(problem: &Problem, modulus: Modulus, answer: &Answer) -> Result<(), Fault>
+    requires sound { SoundClaim problem.now answer.now }
+    requires modulus_value { modulus ≡ modulus_of problem.now.head.p }
+    ensures { found result ≡ applies 10 (claim_in problem.now answer.now) }
 {
-    let modulus = modulus_of(head.p);
-    let mut code = 9;
-    while code <= 13 {
-        if let Finding::Fault(v) = applying(code, head, modulus, f, lengths, entries, c) {
-            return v;
-        }
-        code += 1;
-    }
-    let Degree::Of(sum) = degree_sum(head, lengths) else {
-        return Verdict::NotReduced;
-    };
-    Verdict::Passed(not_negative(sum))
+    let determinant = determinant_of(&answer.basis, modulus, problem.head.m);
+    refuse_if(!is_monomial(determinant), Fault::NotMonomial)
+}
+
+// problem, modulus, answer: of a claim.
+// 11: the first place where the product has a fault below the orders.
+fn check_below_orders(problem: &Problem, modulus: Modulus, answer: &Answer) -> Result<(), Fault>
+    requires sound { SoundClaim problem.now answer.now }
+    requires modulus_value { modulus ≡ modulus_of problem.now.head.p }
+    ensures { found result ≡ applies 11 (claim_in problem.now answer.now) }
+{
+    let place = first_low_fault(problem, modulus, &answer.basis);
+    refuse_at(place, Fault::BelowOrder)
+}
+
+// problem, modulus, answer: of a claim.
+// 12: the first place where the product has a fault at the orders.
+fn check_at_orders(problem: &Problem, modulus: Modulus, answer: &Answer) -> Result<(), Fault>
+    requires sound { SoundClaim problem.now answer.now }
+    requires modulus_value { modulus ≡ modulus_of problem.now.head.p }
+    ensures { found result ≡ applies 12 (claim_in problem.now answer.now) }
+{
+    let place = first_order_fault(problem, modulus, answer);
+    refuse_at(place, Fault::AtOrder)
+}
+
+// problem, answer: of a claim.
+// 13: where the rank of [P(0) C] is below m.
+fn check_rank(problem: &Problem, answer: &Answer) -> Result<(), Fault>
+    requires sound { SoundClaim problem.now answer.now }
+    ensures { found result ≡ applies 13 (claim_in problem.now answer.now) }
+{
+    let head = &problem.head;
+    let is_dependent = dependent(rank_matrix(head, answer), head.p, head.m, head.m + head.n);
+    refuse_if(is_dependent, Fault::LowRank)
+}
+
+// problem, answer: a claim that was read.
+// Its verdict: "The first that applies is given, … then 9 to 13 by number."
+#[tactic(auto, using(crate::proofs::Judged::judged))]
+pub fn conditions(problem: &Problem, answer: &Answer) -> Verdict
+    requires { SoundClaim problem.now answer.now }
+    ensures { meant result ≡ judge_claim (claim_in problem.now answer.now) }
+{
+    let modulus = modulus_of(problem.head.p);
+    check_leading_matrix(problem, answer)?;
+    check_determinant(problem, modulus, answer)?;
+    check_below_orders(problem, modulus, answer)?;
+    check_at_orders(problem, modulus, answer)?;
+    check_rank(problem, answer)?;
+    let sum = degree_sum(&problem.head, &answer.basis).ok_or(Fault::NotReduced)?;
+    Ok(not_negative(sum))
 }
