@@ -1,4 +1,4 @@
--- Each public function's contract leaves one result and, of the lent array, every number at the end.
+-- Each public function's contract leaves one result and, of the lent struct, every number at the end.
 use mathlib.Core.Path.{refl}
 use Rattle.unique.specs.OneResult.{OneResult}
 use Rattle.layout.specs.Settles.{settles_unique}

@@ -1,5 +1,5 @@
 -- A problem that was read is given, by the file that it was read from.
-use Rattle.std.specs.Prelude.{◌≡◌, true, List, ℕ, get_or}
+use Rattle.std.specs.Prelude.{◌≡◌, List, ℕ, get_or, Result, Ok, Err, OnOk}
 use Rattle.std.proofs.Common.{sym, ◌∙◌}
 use Rattle.rules.specs.Sizes.{most_rows, most_order}
 use Rattle.rules.specs.Matrices.{order, shift, at}
@@ -8,17 +8,17 @@ use Rattle.rules.specs.Table.{table, table_cong}
 use Rattle.rules.specs.Prepared.{Gives}
 use Rattle.laws.specs.ByteNumbers.{AllBytes}
 use Rattle.layout.specs.Flat.{shift_at, column_place, column_cell_at}
-use Rattle.problem_file.specs.declared.ReadProblem.{ReadProblem}
+use Rattle.claim.specs.declared.Problem.{Problem as ProblemArrays}
+use Rattle.verdict.specs.declared.Refusal.{Refusal}
 use Rattle.problem_file.specs.Values.{problem_value}
 use Rattle.reader.specs.Readings.{after, problem_exact}
 use Rattle.prepared.specs.Form.{form_of}
 
-pub reading_gives : (s : List ℕ) → AllBytes s → {x : ReadProblem} → x ≡ problem_value (read_problem s) → x.ok ≡ true
-    → Gives s (form_of x.problem.head x.problem.f)
-reading_gives s bytes {x} e h =
-    let (b, reads, exact) = problem_exact s e h in
-    let head = x.problem.head in
-    let f = x.problem.f in
+pub reading_gives : (s : List ℕ) → AllBytes s → {x : ProblemArrays} → (Ok tt, x) ≡ problem_value (read_problem s) → Gives s (form_of x.head x.f)
+reading_gives s bytes {x} e =
+    let (b, reads, exact) = problem_exact s e in
+    let head = x.head in
+    let f = x.f in
     record {
       bytes = bytes;
       problem = b;
@@ -36,3 +36,9 @@ reading_gives s bytes {x} e h =
             table_cong most_order _ _ (λ k hk. sym (exact.cells i j k hi) ∙ column_cell_at f i j k hk))) t;
       };
     }
+
+-- The same of a reading that may be refused.
+pub gives_on_ok : (s : List ℕ) → AllBytes s → (r : Result (Unit {0}) Refusal) {x : ProblemArrays} → (r, x) ≡ problem_value (read_problem s)
+    → OnOk r (Gives s (form_of x.head x.f))
+gives_on_ok s bytes (Ok u) e = reading_gives s bytes e
+gives_on_ok s bytes (Err y) e = tt

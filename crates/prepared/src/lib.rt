@@ -4,21 +4,22 @@
 // The tests go from the cheap to the dear, and each stands for a part of `Canonical` (specs/Canonical.antt).
 #![tactic(auto, unfolding(rules::specs::Sizes::most_rows, rules::specs::Sizes::most_order, rules::specs::Sizes::most_shift, rules::specs::Sizes::largest_prime, layout::specs::Flat::column_place))]
 
-ghost use Rattle.std.specs.Prelude.{◌≡◌, ◌↔◌, true, ℕ, ◌*◌, ◌≤◌, ◌<◌, length, slice_index, EachIndex, IsTrue};
+ghost use Rattle.std.specs.Prelude.{◌≡◌, ◌↔◌, true, ℕ, ◌*◌, ◌≤◌, ◌<◌, length, slice_index, EachIndex, IsTrue, OnOk};
 ghost use Rattle.algebra.specs.Prime.{Prime};
 ghost use Rattle.rules.specs.Sizes.{most_rows, most_order};
 ghost use Rattle.rules.specs.Files.{read_problem};
 ghost use Rattle.rules.specs.Prepared.{Gives, Given};
 ghost use Rattle.layout.specs.Flat.{shift_at, filled, column_coefficients};
 ghost use Rattle.layout.specs.Settles.{Settles};
-ghost use Rattle.problem_file.specs.Values.{problem_value, with_columns};
+ghost use Rattle.problem_file.specs.Values.{problem_value};
 ghost use Rattle.prepared.specs.Form.{form_of};
 ghost use Rattle.prepared.specs.Canonical.{Below, Sized, Order, Orders, Shift, Shifts, Numbers, Row, Rows, Column, Columns};
 
 use claim::{Head, Problem};
-use layout::{COLUMN_COEFFICIENTS, ORDER, PRIME, ROWS, SHIFT};
+use layout::{ORDER, PRIME, ROWS, SHIFT};
 use primality::is_prime;
-use problem_file::{ProblemOutline, read_problem_into};
+use problem_file::read_problem_into;
+use verdict::Refusal;
 
 // The numbers of a column of F.
 const COLUMN: usize = ROWS * ORDER;
@@ -151,14 +152,15 @@ fn columns_given(problem: &Problem) -> bool
     zeros(&problem.f[head.n * COLUMN..])
 }
 
-// problem: the problem file, of any bytes. f: all 0; where the coefficients of F go. They are all 0 again where the problem is refused.
-// The rest of the problem in its prepared form, or the refusal.
-pub fn prepare(problem: &[u8], f: &mut [u32; COLUMN_COEFFICIENTS]) -> ProblemOutline
-    requires { f.old ≡ filled column_coefficients 0 }
-    ensures f_after { with_columns result f.new ≡ problem_value (read_problem problem.now) }
-    ensures gives { result.ok ≡ true → Gives problem.now (form_of result.head f.new) }
+// problem: the problem file, of any bytes. form: the coefficients of F all 0; where the problem goes, in its prepared form. Every number is 0 where
+// it is refused.
+// The refusal, if it is refused.
+pub fn prepare(problem: &[u8], form: &mut Problem) -> Result<(), Refusal>
+    requires { form.old.f ≡ filled column_coefficients 0 }
+    ensures form_after { (result, form.new) ≡ problem_value (read_problem problem.now) }
+    ensures gives { OnOk result (Gives problem.now (form_of form.new.head form.new.f)) }
 {
-    read_problem_into(problem, f)
+    read_problem_into(problem, form)
 }
 
 // head: any numbers.
