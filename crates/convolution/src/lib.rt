@@ -2,7 +2,7 @@
 //
 // A polynomial stands in an array of CAPACITY numbers: two zeros, its coefficients from power 0 on, then zeros, at least two of them. With
 // these zeros the product of two polynomials needs no case for its ends.
-#![tactic(auto)]
+#![tactic(auto, unfolding(crate::specs::Padded::capacity, polynomial::specs::Coefficients::most_power, rules::specs::Sizes::most_rows, rules::specs::Sizes::most_length))]
 
 ghost use Rattle.std.specs.Prelude.{◌≡◌, ◌+◌, ◌*◌, ◌^◌, ◌≤◌, ◌<◌, length, replicate};
 ghost use Rattle.field.specs.Modulus.{Made};
@@ -39,7 +39,7 @@ fn fold(v: u64, modulus: Modulus) -> u64
     requires { Made modulus }
     ensures { (result ≡ folded modulus v) × (result < 2 ^ 56) }
 {
-    v / CUT * modulus.fold as u64 + v % CUT
+    v / CUT * u64::from(modulus.fold) + v % CUT
 }
 
 // x and y: numbers below 2^31, as every number modulo an allowed prime is.
@@ -48,7 +48,7 @@ fn product(x: u32, y: u32) -> u64
     requires { (x < 2 ^ 31) × (y < 2 ^ 31) }
     ensures { (result ≡ x * y) × (result < 2 ^ 62) }
 {
-    x as u64 * y as u64
+    u64::from(x) * u64::from(y)
 }
 
 // v: a sum. x, y and z: three coefficients in a row of one polynomial. g: another polynomial. k: a power.
@@ -100,10 +100,8 @@ pub fn add_product(
     requires each { Each (2 ^ 31) f.now × Each (2 ^ 31) g.now }
     ensures { sums.new ≡ with_product modulus count top f.now g.now sums.old }
 {
-    let mut at = 0;
-    while at < count {
+    for at in (0..count).step_by(3) {
         add_triple(sums, f, at, g, top, modulus);
-        at += 3;
     }
 }
 
@@ -115,7 +113,7 @@ pub fn residues(sums: &[u64; CAPACITY], top: usize, p: u32) -> [u32; CAPACITY]
 {
     let mut l = no_coefficients();
     for k in 0..top + 1 {
-        l[k + 2] = (sums[k] % p as u64) as u32;
+        l[k + 2] = (sums[k] % u64::from(p)) as u32;
     }
     l
 }
@@ -126,12 +124,10 @@ pub fn length_of(l: &[u32; CAPACITY], bound: usize) -> usize
     requires { ZerosFrom (coefficient l.now) bound }
     ensures { Ends (coefficient l.now) result }
 {
-    let mut n = bound;
-    while 0 < n {
-        if l[n + 1] != 0 {
-            return n;
+    for k in (0..bound).rev() {
+        if l[k + 2] != 0 {
+            return k + 1;
         }
-        n -= 1;
     }
     0
 }
@@ -141,12 +137,10 @@ pub fn length_of(l: &[u32; CAPACITY], bound: usize) -> usize
 pub fn unpadded(l: &[u32; CAPACITY], length: usize) -> Polynomial
     ensures { Unpadded l.now length result }
 {
-    let mut f = Polynomial {
-        coefficients: [0; COEFFICIENTS],
+    let mut coefficients = [0; COEFFICIENTS];
+    coefficients.copy_from_slice(&l[2..COEFFICIENTS + 2]);
+    Polynomial {
+        coefficients,
         length,
-    };
-    for k in 0..COEFFICIENTS {
-        f.coefficients[k] = l[k + 2];
     }
-    f
 }

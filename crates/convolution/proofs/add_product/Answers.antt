@@ -1,6 +1,4 @@
 use native.Mathlib.Omega.{arith}
-use Rattle.rules.specs.Sizes.{most_rows, most_length}
-use Rattle.polynomial.specs.Coefficients.{most_power}
 use Rattle.convolution.specs.Padded.{capacity}
 use mathlib.Core.Path.{◌≡◌, refl, ap, ◌∙◌}
 use mathlib.Core.List.{List}
@@ -13,17 +11,6 @@ use Rattle.convolution.proofs.add_product.Goals as goal
 pub loop-at-init : goal.loop-at-init
 unfolding with_triples
 loop-at-init c = (refl, (omega arith, (c.requires.top_bound.1.1, refl)))
-
-pub add_triple-requires : goal.add_triple-requires
-add_triple-requires c = record { top_bound = (omega arith, (c.requires.top_bound.1.0, c.loop-at.invariant.1.1.0)); each = c.requires.each }
-
-pub overflow_add-at : goal.overflow_add-at
-unfolding capacity most_power most_rows most_length
-overflow_add-at c = omega arith
-
-pub loop-at-smaller : goal.loop-at-smaller
-unfolding capacity most_power most_rows most_length
-loop-at-smaller c = omega arith
 
 -- The sums after three terms more.
 more : (μ : Modulus) (top : ℕ) (f g : List ℕ) (at : ℕ) (s₀ s s' : List ℕ) → at % 3 ≡ 0 → s' ≡ with_triple μ at top f g s → length s ≡ capacity
@@ -58,3 +45,14 @@ returns c =
     let a = c.args in
     let turns : at-loop.at / 3 ≡ (a.count + 2) / 3 = omega (arith, at-loop.invariant.0, at-loop.invariant.1.0) in
     at-loop.invariant.1.1.1 ∙ ap (λ j. with_triples a.modulus a.top a.f.now a.g.now j a.sums.now) turns
+
+-- The last turn ends the loop too.
+pub returns-2 : goal.returns-2
+unfolding with_product
+returns-2 c =
+    let at-loop = c.loop-at in
+    let a = c.args in
+    let turns : (at-loop.at + 3) / 3 ≡ (a.count + 2) / 3 = omega (arith, at-loop.invariant.0) in
+    let done = more a.modulus a.top a.f.now a.g.now at-loop.at a.sums.now at-loop.sums c.add_triple.new.sums at-loop.invariant.0 c.add_triple.ensures
+    at-loop.invariant.1.1.0 at-loop.invariant.1.1.1 in
+    done.1 ∙ ap (λ j. with_triples a.modulus a.top a.f.now a.g.now j a.sums.now) turns
