@@ -1,14 +1,17 @@
 -- How a count of the numbers other than 0 tells whether exactly one coefficient of a polynomial is not 0.
 --   counted x                0 for 0 and 1 for every other number
 --   nonzeros g n             how many of g 0, …, g (n − 1) are not 0
+--   nonzeros_of              the library's count of a list's first n numbers is that
 --   TestsMonomial l r        r tells whether the polynomial of l is a nonzero constant times a power of X, whatever its modulus
 --   count_settles            the count tells it
 --   tests_unique             the test has one answer
 --   tests_monomial           what that tells of the polynomial whose coefficients they are
-use Rattle.std.specs.Prelude.{◌≡◌, refl, ◌≢◌, Bool, cond, List, [], ◌∷◌, ℕ, zero, suc, ◌+◌, ◌≤◌, ◌<◌, eqb, get_or}
+use Rattle.std.specs.Prelude.{◌≡◌, refl, ◌≢◌, Bool, cond, not, List, [], ◌∷◌, ℕ, zero, suc, ◌+◌, ◌≤◌, ◌<◌, eqb, length, get_or, take, count_by}
 use Rattle.std.proofs.Common.{sym, ap, subst, ◌∙◌, mod-eq_of_lt, not-suc-le-zero, zero-lt-suc, add-one, arith, eqb-true, eq-eqb, ne_eqb}
 use Rattle.std.proofs.Math.Decide.{dec_lt, ℕ_discrete}
 use Rattle.std.proofs.lemmas.Bool.{eqb-false}
+use Rattle.std.proofs.lemmas.List.{take_all, get_or_past}
+use Rattle.std.proofs.lemmas.List.Sums.{count_by_more_no, count_by_more_yes}
 use Rattle.algebra.specs.Residue.{K, Residue, red, red_zero_iff}
 use Rattle.algebra.specs.OrderBasis.{Monomial}
 use Rattle.rules.specs.Matrices.{polynomial}
@@ -40,6 +43,29 @@ nonzeros g (suc n) = nonzeros g n + counted (g n)
 pub nonzeros_more : (g : ℕ → ℕ) (n : ℕ) → nonzeros g (n + 1) ≡ nonzeros g n + counted (g n)
 unfolding nonzeros
 nonzeros_more g n = ap (nonzeros g) (add-one n)
+
+-- The library's count of a list's first n numbers.
+abbrev counts : List ℕ → ℕ → ℕ
+counts l n = count_by (λ x. not (eqb x 0)) (take n l)
+
+counts_more : (l : List ℕ) (n : ℕ) → counts l (n + 1) ≡ counts l n + counted (get_or l n 0)
+counts_more l n = elim (dec_lt n (length l)) [
+  | yes h ↦ elim (ℕ_discrete (get_or l n 0) 0) [
+    | yes z ↦ omega (arith, count_by_more_no (λ x. not (eqb x 0)) l n 0 h (ap not (eq-eqb (get_or l n 0) 0 z)), counted_zero (get_or l n 0) z)
+    | no ne ↦ omega (arith, count_by_more_yes (λ x. not (eqb x 0)) l n 0 h (ap not (ne_eqb (get_or l n 0) 0 ne)), counted_one (get_or l n 0) ne)
+  ]
+  | no past ↦
+      omega (
+        arith,
+        ap (count_by (λ x. not (eqb x 0))) (take_all (n + 1) l (omega arith) ∙ sym (take_all n l (omega arith))),
+        counted_zero (get_or l n 0) (get_or_past l n 0 (omega arith)),
+      )
+]
+
+pub nonzeros_of : (l : List ℕ) (n : ℕ) → counts l n ≡ nonzeros (λ k. get_or l k 0) n
+unfolding nonzeros
+nonzeros_of l zero = refl
+nonzeros_of l (suc n) = sym (ap (counts l) (add-one n)) ∙ counts_more l n ∙ ap (λ x. x + counted (get_or l n 0)) (nonzeros_of l n)
 
 -- What holds at n and at every number below n holds below n + 1.
 below_suc : (P : ℕ → Type 0) (n : ℕ) → P n → ((k : ℕ) → k < n → P k) → (k : ℕ) → k < suc n → P k

@@ -1,9 +1,9 @@
 // A polynomial modulo p by its coefficients, and whether it is a nonzero constant times a power of X.
 #![tactic(auto)]
 
-ghost use Rattle.std.specs.Prelude.{◌≡◌};
+ghost use Rattle.std.specs.Prelude.{◌≡◌, ◌==◌, not, count_by};
 ghost use Rattle.polynomial.specs.Coefficients.{Trimmed};
-ghost use Rattle.polynomial.specs.Count.{counted, TestsMonomial};
+ghost use Rattle.polynomial.specs.Count.{TestsMonomial};
 
 use layout::{LENGTH, ROWS};
 
@@ -17,23 +17,24 @@ pub struct Polynomial {
     pub length: usize,
 }
 
-// 0 for 0 and 1 for any other number.
-fn one_if_nonzero(x: u32) -> usize
-    ensures { result ≡ counted x }
+// xs: any numbers.
+// How many of them are not 0.
+fn nonzeros(xs: &[u32]) -> usize
+    ensures { result ≡ count_by (λ x. not (x == 0)) xs.now }
 {
-    if x == 0 { 0 } else { 1 }
+    let mut n: usize = 0;
+    for x in xs {
+        n += usize::from(*x != 0);
+    }
+    n
 }
 
 // f: a polynomial.
 // Whether it is a nonzero constant times a power of X, modulo any p that its coefficients are below: exactly one of them is not 0.
+#[tactic(auto, unfolding(rules::specs::Sizes::most_rows, rules::specs::Sizes::most_length, crate::specs::Coefficients::most_power))]
 pub fn is_monomial(f: Polynomial) -> bool
     requires { Trimmed f }
     ensures { TestsMonomial f.coefficients result }
 {
-    let length = f.length;
-    let mut n: usize = 0;
-    for k in 0..length {
-        n += one_if_nonzero(f.coefficients[k]);
-    }
-    n == 1
+    nonzeros(&f.coefficients[..f.length]) == 1
 }
