@@ -1,4 +1,5 @@
-// Whether the rows of a small matrix modulo a prime are dependent, by elimination in the matrix, of which the caller hands over a copy.
+// Whether the rows of a small matrix modulo a prime are dependent, by elimination. The matrix is handed about by value: each step takes it
+// and returns what it leaves.
 #![tactic(auto, unfolding(rules::specs::Sizes::most_rows))]
 
 ghost use Rattle.std.specs.Prelude.{◌≡◌, ◌≢◌, ◌<◌, ◌≤◌};
@@ -76,27 +77,28 @@ fn clear_below(a: &mut Grid, p: u32, v: u32, r: usize, c: usize, m: usize, n: us
 }
 
 // a: the matrix, of numbers below p. r, c: the row and the column that the step is at. k: a row from r on, not 0 in column c.
-// Row k comes to the place of row r, and column c is cleared below it. The last row has none below it: the matrix stays, and no inverse is
-// asked for. That of 0 is never asked for, and the answer is never none.
-fn step(a: &mut Grid, p: u32, r: usize, c: usize, k: usize, m: usize, n: usize)
+// The matrix with row k in the place of row r, and column c cleared below it. The last row has none below it: the matrix stays, and no
+// inverse is asked for. That of 0 is never asked for, and the answer is never none.
+fn step(mut a: Grid, p: u32, r: usize, c: usize, k: usize, m: usize, n: usize) -> Grid
     requires prime { Prime p }
-    requires below { Below p a.old }
+    requires below { Below p a }
     requires r_le_k { r ≤ k }
     requires k_lt_m { k < m }
     requires m_le_most_rows { m ≤ most_rows }
     requires c_lt_n { c < n }
     requires n_le_width { n ≤ width }
-    requires c_nonzero { at a.old k c ≢ 0 }
-    ensures { Stepped p a.old r c m n a.new }
+    requires c_nonzero { at a k c ≢ 0 }
+    ensures { Stepped p a r c m n result }
 {
     if r + 1 == m {
-        return;
+        return a;
     }
     let Some(v) = field::inverse_mod(a[k][c], p) else {
-        return;
+        return a;
     };
-    swap_rows(a, r, k);
-    clear_below(a, p, v, r, c, m, n);
+    swap_rows(&mut a, r, k);
+    clear_below(&mut a, p, v, r, c, m, n);
+    a
 }
 
 // a: the matrix, of numbers below p. p: a prime. m, n: the numbers of rows and columns.
@@ -112,7 +114,7 @@ pub fn dependent(a: Grid, p: u32, m: usize, n: usize) -> bool
     let mut r: usize = 0;
     for c in 0..n {
         if let Some(k) = pivot_row(&b, c, r, m) {
-            step(&mut b, p, r, c, k, m, n);
+            b = step(b, p, r, c, k, m, n);
             r += 1;
         }
     }

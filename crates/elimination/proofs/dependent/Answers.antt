@@ -15,7 +15,7 @@ loop-c-preserved c =
     let inside = c.loop-c-test.true in
     elim c.match-pivot_row.branch [
       | in-Some w ↦
-          rw (w.b-is, w.r-is) (left_stepped _ _ _ _ _ _ _ _ left (omega (arith, w.in-Some.ensures.low, w.in-Some.ensures.high)) inside w.step.ensures)
+          rw (w.b-is, w.r-is) (left_stepped _ _ _ _ _ _ _ _ left (omega (arith, w.in-Some.ensures.low, w.in-Some.ensures.high)) inside w.step-b.ensures)
       | in_default w ↦ rw (w.b-is, w.r-is) (left_passed _ _ _ _ _ _ _ left inside w.in_default.ensures)
     ]
 
