@@ -10,6 +10,7 @@ use native.Mathlib.Omega.{arith}
 use Rattle.std.proofs.Math.ListN.{get_or-eq_default}
 use Rattle.rules.specs.Sizes.{most_rows, most_length}
 use Rattle.layout.specs.Flat.{square, square_place, length_at}
+use Rattle.pivots.specs.Rows.{place_inside, row_of_place, column_of_place}
 use Rattle.stepping.specs.Next.{coefficient_at}
 
 pub record Measured (entries : List ℕ) (i j r : ℕ) : Type 0 where
@@ -39,24 +40,12 @@ module _ (entries : List ℕ) where
         (subst (Measured entries (n / most_rows) (n % most_rows)) (sym (get_or-set_same r n x 0 (subst (λ k. n < k) (sym so_far.full) hn))) m);
   }
 
-  row_of : (i j : ℕ) → j < most_rows → square_place i j / most_rows ≡ i
-  unfolding square_place most_rows
-  row_of i j h = omega arith
-
-  column_of : (i j : ℕ) → j < most_rows → square_place i j % most_rows ≡ j
-  unfolding square_place most_rows
-  column_of i j h = omega arith
-
-  below : (i j : ℕ) → i < most_rows → j < most_rows → square_place i j < square
-  unfolding square_place most_rows
-  below i j hi hj = omega arith
-
   pub lengths_all : (r : List ℕ) → Measuring entries square r → Lengths entries r
   lengths_all r h = record {
     full = h.full;
     measured = λ i j hi hj.
-        subst (λ i'. Measured entries i' j (length_at r i j)) (row_of i j hj)
-        (subst (λ j'. Measured entries (square_place i j / most_rows) j' (length_at r i j)) (column_of i j hj) (h.measured (square_place i j) (below i j hi hj)));
+        subst (λ i'. Measured entries i' j (length_at r i j)) (row_of_place i j hj)
+        (subst (λ j'. Measured entries (square_place i j / most_rows) j' (length_at r i j)) (column_of_place i j hj) (h.measured (square_place i j) (place_inside i j hi hj)));
   }
 
   -- A list with these coefficients, no longer than an entry may be, that ends in another number than 0, has that length.

@@ -16,7 +16,7 @@ use Rattle.layout.specs.Holds.{Each}
 use Rattle.claim.specs.declared.Head.{Head}
 use Rattle.claim.specs.Claims.{problem_of}
 use Rattle.pivots.specs.Order.{Small, degree_at}
-use Rattle.pivots.specs.Rows.{Full, number_at, each_set}
+use Rattle.pivots.specs.Rows.{Full, number_at, each_set, place_inside, row_of_place, column_of_place}
 use Rattle.stepping.specs.Next.{coefficient_at}
 use Rattle.iteration.specs.After.{After, Residuals, Raised}
 
@@ -59,19 +59,6 @@ module _ (m n : ℕ) (orders products : List ℕ) (i j k : ℕ) where
       smaller true x h = positive
       smaller false x h = h
 
--- Where a number stands in a square.
-place_row : (i j : ℕ) → j < most_rows → square_place i j / most_rows ≡ i
-unfolding square_place most_rows
-place_row i j h = omega arith
-
-place_column : (i j : ℕ) → j < most_rows → square_place i j % most_rows ≡ j
-unfolding square_place most_rows
-place_column i j h = omega arith
-
-place_below : (i j : ℕ) → i < most_rows → j < most_rows → square_place i j < square
-unfolding square_place most_rows
-place_below i j hi hj = omega arith
-
 module _ (m n k : ℕ) (orders products : List ℕ) where
   -- The first c numbers of the square are residuals.
   pub record Looked (c : ℕ) (r : List ℕ) : Type 0 where
@@ -113,8 +100,8 @@ module _ (m n k : ℕ) (orders products : List ℕ) where
     where
       at : (i j : ℕ) → i < most_rows → j < most_rows → number_at r i j ≡ residual_number m n orders products i j k
       at i j hi hj =
-          h.looked (square_place i j) (place_below i j hi hj)
-          ∙ ap₂ (λ x y. residual_number m n orders products x y k) (place_row i j hj) (place_column i j hj)
+          h.looked (square_place i j) (place_inside i j hi hj)
+          ∙ ap₂ (λ x y. residual_number m n orders products x y k) (row_of_place i j hj) (column_of_place i j hj)
 
 -- THE DEGREES
 

@@ -69,14 +69,26 @@ column_inside : (k : ℕ) → k % most_rows < most_rows
 unfolding most_rows
 column_inside k = omega arith
 
+-- The row and the column of a place.
+pub row_of_place : (i j : ℕ) → j < most_rows → square_place i j / most_rows ≡ i
+unfolding square_place most_rows
+row_of_place i j h = omega arith
+
+pub column_of_place : (i j : ℕ) → j < most_rows → square_place i j % most_rows ≡ j
+unfolding square_place most_rows
+column_of_place i j h = omega arith
+
 pub square_ext : (l l' : List ℕ) → Full l → Full l' → ((i j : ℕ) → i < most_rows → j < most_rows → number_at l i j ≡ number_at l' i j) → l ≡ l'
 square_ext l l' full full' same =
     ext_get_or 0 l l' (full ∙ sym full') (λ k hk. subst (λ a. get_or l a 0 ≡ get_or l' a 0) (place_of k)
     (same (k / most_rows) (k % most_rows) (row_inside k (subst (λ n. k < n) full hk)) (column_inside k)))
 
--- A list of zeros.
+-- A list of one value, and of zeros.
+pub same_at : {A : Type 0} (value : A) (n k : ℕ) → get_or (table n (λ i. value)) k value ≡ value
+same_at value n k = table_all n (λ i. value) value (λ x. x ≡ value) refl (λ i. refl) k
+
 pub zeros_at : (n k : ℕ) → get_or {A = ℕ} (table n (λ i. 0)) k 0 ≡ 0
-zeros_at n k = table_all n (λ i. 0) 0 (λ (x : ℕ). x ≡ 0) refl (λ i. refl) k
+zeros_at = same_at 0
 
 -- Of the identity n rows are there, and the rest is 0.
 pub record Identity (n : ℕ) (l : List ℕ) : Type 0 where

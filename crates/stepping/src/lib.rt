@@ -48,10 +48,10 @@ impl<'a> Step<'a> {
         if self.choice.moves[i] == 0 {
             return self.combined(i, j, t);
         }
-        if t == 0 {
-            return 0;
+        match t.checked_sub(1) {
+            Some(lower) => self.old[entry_place(i, j, lower)],
+            None => 0,
         }
-        self.old[entry_place(i, j, t - 1)]
     }
 
     // out: the coefficients of a matrix. i, j: as above. powers: of the coefficients that are made.

@@ -1,29 +1,23 @@
 use Rattle.std.proofs.Common.{◌≡◌, refl, ℕ, Bool, false, get_or, sym, subst, ◌∙◌, true≢false, suc, ◌-◌, ◌+◌, ◌<◌, length, get_or-set_same, arith, rules}
+use Rattle.std.proofs.Math.Nat.{sub-zero}
 use Rattle.rules.specs.Sizes.{most_rows}
-use Rattle.rules.specs.Table.{table, table_all}
+use Rattle.rules.specs.Table.{table}
 use Rattle.laws.specs.RowOrder.{next_row_some}
 use Rattle.pivots.specs.Order.{degree_at, is_taken}
-use Rattle.pivots.specs.Rows.{square_of, zeros_at}
+use Rattle.pivots.specs.Rows.{square_of, same_at, zeros_at}
 use Rattle.pivots.specs.State.{reflects_start}
 use Rattle.pivots.specs.Fold.{Folds, folds_start, folds_taken, folds_none, folds_end}
 use Rattle.pivots.proofs.choose.Goals as goal
 use Rattle.pivots.proofs.choose.Goals.{in-Some, in_default}
-
-sub_zero : (n : ℕ) → n - 0 ≡ n
-sub_zero n = omega arith
-
--- A list of which no row was taken.
-none_at : (n k : ℕ) → get_or (table n (λ i. false)) k false ≡ false
-none_at n k = table_all n (λ i. false) false (λ (t : Bool). t ≡ false) refl (λ i. refl) k
 
 pub loop-init : goal.loop-init
 unfolding most_rows table
 loop-init c =
     let a = c.args in
     let square = square_of a.p a.residuals.now in
-    rw (sub_zero a.m) (folds_start a.p a.m (degree_at a.degrees.now) square _ _ a.residuals.now c.identity.result c.identity-2.result
+    rw (sub-zero a.m) (folds_start a.p a.m (degree_at a.degrees.now) square _ _ a.residuals.now c.identity.result c.identity-2.result
     (reflects_start a.p c.requires.prime a.m c.requires.m_le_most_rows square _ _ a.residuals.now c.identity.result c.identity-2.result
-    refl refl (none_at most_rows) (zeros_at most_rows) (search rules) c.requires.each (λ i j hi hj. refl) c.identity.ensures c.identity-2.ensures))
+    refl refl (same_at false most_rows) (zeros_at most_rows) (search rules) c.requires.each (λ i j hi hj. refl) c.identity.ensures c.identity-2.ensures))
 
 pub bounds-taken-i : goal.bounds-taken-i
 unfolding most_rows
