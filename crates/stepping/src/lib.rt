@@ -2,7 +2,7 @@
 // rows of P and those of P·F change by the same step.
 #![tactic(auto, unfolding(rules::specs::Sizes::most_rows, rules::specs::Sizes::most_length, layout::specs::Flat::square_place, layout::specs::Flat::entry_place))]
 
-ghost use Rattle.std.specs.Prelude.{◌≤◌, ◌<◌};
+ghost use Rattle.std.specs.Prelude.{◌≢◌, ◌↔◌, ◌≤◌, ◌<◌, IsTrue, get_or};
 ghost use Rattle.rules.specs.Sizes.{most_rows, most_length};
 ghost use Rattle.stepping.specs.Next.{Rows, Combined, Next};
 ghost use Rattle.stepping.specs.Filled.{Kept, Filled, EntryBox, RowBox, RowsBox};
@@ -38,14 +38,15 @@ impl<'a> Step<'a> {
         (sum % u64::from(self.p)) as u32
     }
 
-    // i, j, t: as above.
+    // moves: whether row i moves. i, j, t: as above.
     // The coefficient that row i has next: of the row before, one power lower, where it moves, and else of the combination.
-    fn next_coefficient(&self, i: usize, j: usize, t: usize) -> u32
+    fn next_coefficient(&self, moves: bool, i: usize, j: usize, t: usize) -> u32
+        requires moves { IsTrue moves ↔ get_or self.now.choice.now.moves i 0 ≢ 0 }
         requires rows { Rows self.now.p self.now.old.now self.now.choice.now.factors }
         requires m_le_most_rows { (self.now.m ≤ most_rows) × ((i < most_rows) × ((j < most_rows) × (t < most_length))) }
         ensures { Next self.now.p self.now.m self.now.old.now self.now.choice.now.moves self.now.choice.now.factors i j t result }
     {
-        if self.choice.moves[i] == 0 {
+        if !moves {
             return self.combined(i, j, t);
         }
         match t.checked_sub(1) {
@@ -69,8 +70,9 @@ impl<'a> Step<'a> {
         ensures { Filled self.now.p (Next self.now.p self.now.m self.now.old.now self.now.choice.now.moves self.now.choice.now.factors)
             (EntryBox i j powers.now.start powers.now.end) out.old out.new }
     {
+        let moves = self.choice.moves[i] != 0;
         for t in powers.start..powers.end {
-            out[entry_place(i, j, t)] = self.next_coefficient(i, j, t);
+            out[entry_place(i, j, t)] = self.next_coefficient(moves, i, j, t);
         }
     }
 
