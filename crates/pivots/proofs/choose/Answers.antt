@@ -1,4 +1,4 @@
-use Rattle.std.proofs.Common.{◌≡◌, refl, ℕ, Bool, false, get_or, sym, subst, ◌∙◌, true≢false, suc, ◌-◌, ◌+◌, ◌<◌, length, get_or-set_same, arith, rules}
+use Rattle.std.proofs.Common.{◌≡◌, refl, false, sym, subst, ◌∙◌, true≢false, suc, ◌-◌, ◌+◌, ◌<◌, length, get_or-set_same, arith, rules}
 use Rattle.std.proofs.Math.Nat.{sub-zero}
 use Rattle.rules.specs.Sizes.{most_rows}
 use Rattle.rules.specs.Table.{table}
