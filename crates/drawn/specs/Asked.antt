@@ -1,7 +1,7 @@
 -- What is asked of a claim in arrays and of the numbers drawn.
 --   Arrays head f entries c            document 01's ranges
 --   Asked head f entries c u point     … and numbers drawn below p
---   AskedIn b a u point                the same of the code's structs, whole
+--   ArraysIn b a, AskedIn b a u point  the same of the code's structs, whole
 --   Largest n orders d                 no order of the first n columns is above d, which is no larger than document 01 allows
 use Rattle.std.specs.Prelude.{List, ℕ, ◌≤◌, ◌<◌, get_or}
 use Rattle.rules.specs.Sizes.{most_order}
@@ -26,6 +26,9 @@ pub record Asked (head : Head) (f entries c u : List ℕ) (point : ℕ) : Type 0
   pub point_below : point < head.p
 
 -- The same of the code's structs.
+abbrev pub ArraysIn : Problem → Answer → Type 0
+ArraysIn b a = Arrays b.head b.f a.basis.entries a.c
+
 abbrev pub AskedIn : Problem → Answer → List ℕ → ℕ → Type 0
 AskedIn b a u point = Asked b.head b.f a.basis.entries a.c u point
 

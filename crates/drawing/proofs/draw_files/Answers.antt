@@ -1,41 +1,35 @@
--- Past the first branch the problem was read, past the second the answer.
-use borrow.Author.Tests.{not-true, not-false}
-use mathlib.Core.Path.{◌∙◌}
+use Rattle.std.proofs.Common.{◌∙◌}
+use Rattle.drawing.specs.Meant.{drawn_unread}
 use Rattle.drawing.specs.Steps.{off_drawn, answer_off_drawn, both_arrays, both_sound, both_drawn}
 use Rattle.reader.specs.Readings.{problem_head}
 use Rattle.drawing.proofs.draw_files.Goals as goal
 
-pub returns-then-not-b : goal.returns-then-not-b
-returns-then-not-b c =
+pub returns-in_err-read_problem_into : goal.returns-in_err-read_problem_into
+returns-in_err-read_problem_into c =
     let a = c.args in
-    off_drawn a.problem.now a.answer.now a.u.now a.point c.read_problem_into-b.ensures
-    (not-true c.read_problem_into-b.result.ok c.if-not-b.true)
+    drawn_unread c.from_residual.result c.from_residual.ensures.1
+    ∙ off_drawn a.problem.now a.answer.now a.u.now a.point c.in_err-read_problem_into.ensures
 
-pub read_answer_into-a-requires : goal.read_answer_into-a-requires
-read_answer_into-a-requires c =
-    let a = c.args in
-    let sound = problem_head a.problem.now c.read_problem_into-b.ensures (not-false c.read_problem_into-b.result.ok c.if-not-b.false) in
-    record { m_le_most_rows = (sound.rows_most, sound.columns_most); entries_value = c.no_entries-entries.ensures }
+pub read_answer_into-requires-clause-m_le_most_rows : goal.read_answer_into-requires-clause-m_le_most_rows
+read_answer_into-requires-clause-m_le_most_rows c =
+    let sound = problem_head c.args.problem.now c.in_ok-read_problem_into.ensures in
+    (sound.rows_most, sound.columns_most)
 
-pub returns-then-not-a : goal.returns-then-not-a
-returns-then-not-a c =
-    let y = c.read_answer_into-a in
+pub returns-in_err-read_answer_into : goal.returns-in_err-read_answer_into
+returns-in_err-read_answer_into c =
     let a = c.args in
-    answer_off_drawn a.problem.now a.answer.now a.u.now a.point c.read_problem_into-b.ensures (not-false c.read_problem_into-b.result.ok c.if-not-b.false) y.ensures
-    c.if-not-a.true
+    drawn_unread c.from_residual-in_err-read_answer_into.result c.from_residual-in_err-read_answer_into.ensures.1
+    ∙ answer_off_drawn a.problem.now a.answer.now a.u.now a.point c.in_ok-read_problem_into.ensures c.in_err-read_answer_into.ensures
 
 pub draw_claim-requires : goal.draw_claim-requires
 draw_claim-requires c =
     let a = c.args in
-    both_arrays a.problem.now a.answer.now a.u.now a.point c.read_problem_into-b.ensures (not-false c.read_problem_into-b.result.ok c.if-not-b.false)
-    c.read_answer_into-a.ensures c.if-not-a.false
+    both_arrays a.problem.now a.answer.now a.u.now a.point c.in_ok-read_problem_into.ensures c.in_ok-read_answer_into.ensures
 
 pub returns : goal.returns
 returns c =
-    let y = c.read_answer_into-a in
     let a = c.args in
-    c.draw_claim.ensures y.result.lengths
-    (both_sound a.problem.now a.answer.now a.u.now a.point c.read_problem_into-b.ensures (not-false c.read_problem_into-b.result.ok c.if-not-b.false) y.ensures
-    c.if-not-a.false)
-    ∙ both_drawn a.problem.now a.answer.now a.u.now a.point c.read_problem_into-b.ensures (not-false c.read_problem_into-b.result.ok c.if-not-b.false) y.ensures
-    c.if-not-a.false
+    let read = c.in_ok-read_problem_into.ensures in
+    let read_answer = c.in_ok-read_answer_into.ensures in
+    c.draw_claim.ensures c.read_answer_into.new.answer.basis.lengths (both_sound a.problem.now a.answer.now a.u.now a.point read read_answer)
+    ∙ both_drawn a.problem.now a.answer.now a.u.now a.point read read_answer
