@@ -1,17 +1,14 @@
 // Document 01, condition 3: the coefficients of P·F modulo p.
-ghost use Rattle.std.specs.Prelude.{◌≡◌, ◌+◌, ◌*◌, ◌-◌, ◌%◌, ◌^◌, ◌<◌, ◌≤◌};
+ghost use Rattle.std.specs.Prelude.{◌≡◌, ◌+◌, ◌*◌, ◌-◌, ◌%◌, ◌^◌, ◌<◌, ◌≤◌, length};
 ghost use Rattle.rules.specs.Sizes.{most_rows, most_order, most_length};
 ghost use Rattle.field.specs.Modulus.{cut, modulus_of, Made};
-ghost use Rattle.layout.specs.Flat.{entry_coefficients, column_coefficients};
 ghost use Rattle.layout.specs.Holds.{Each, Padded};
 ghost use Rattle.product.specs.Total.{Grown, Within, Summed};
 ghost use Rattle.product.specs.Product.{Factors, dot, first_power, powers, pair_number, product_number, flat_product};
 
 use claim::{Basis, Problem};
 use field::{CUT, Modulus};
-use layout::{
-    COLUMN_COEFFICIENTS, ENTRY_COEFFICIENTS, ORDER, column_place, entry_place, square_place,
-};
+use layout::{ORDER, column_place, entry_place, square_place};
 
 // A sum of products, each cut in two, so that sums of the parts fit: high · 2^40 + low.
 #[derive(Clone, Copy)]
@@ -20,25 +17,18 @@ struct Total {
     low: u64,
 }
 
-// total: a sum. y, x: places in f and entries, from which one goes down and the other up. count: how far.
-// The sum with the products of the coefficients there added.
-fn add_products(
-    total: Total,
-    f: &[u32; COLUMN_COEFFICIENTS],
-    entries: &[u32; ENTRY_COEFFICIENTS],
-    y: usize,
-    x: usize,
-    count: usize,
-) -> Total
-    requires each { Each (2 ^ 31) entries.now × Each (2 ^ 31) f.now }
+// total: a sum. up, down: as many coefficients of P as of F, which go with each other in the one's order and against the other's.
+// The sum with the products of the coefficients added.
+fn add_products(total: Total, up: &[u32], down: &[u32]) -> Total
+    requires each { Each (2 ^ 31) up.now × Each (2 ^ 31) down.now }
     requires within { Within (2 ^ 10) total.high total.low }
-    requires count_bound { (x + count ≤ entry_coefficients) × ((y < column_coefficients) × ((count ≤ y + 1) × (count ≤ 2 ^ 10))) }
-    ensures { Grown count total.high total.low (dot entries.now f.now x y count) result.high result.low }
+    requires paired { (length up.now ≡ length down.now) × (length up.now ≤ 2 ^ 10) }
+    ensures { Grown (length up.now) total.high total.low (dot up.now down.now 0 (length down.now - 1) (length up.now)) result.high result.low }
 {
     let mut high = total.high;
     let mut low = total.low;
-    for t in 0..count {
-        let product = u64::from(entries[x + t]) * u64::from(f[y - t]);
+    for (t, x) in up.iter().enumerate() {
+        let product = u64::from(*x) * u64::from(down[down.len() - 1 - t]);
         high += product / CUT;
         low += product % CUT;
     }
@@ -67,7 +57,7 @@ fn powers(length: usize, k: usize) -> usize
 
 // total: a sum. problem, basis: of a claim. i, l, j: a row of P, its column and so the row of F, and a column of F. k: a power.
 // The sum with the products added that the entries of P and F there give to the power k.
-#[tactic(auto, unfolding(rules::specs::Sizes::most_rows, rules::specs::Sizes::most_order, rules::specs::Sizes::most_length, layout::specs::Flat::square_place, crate::specs::Product::first_power))]
+#[tactic(auto, unfolding(rules::specs::Sizes::most_rows, rules::specs::Sizes::most_order, rules::specs::Sizes::most_length, layout::specs::Flat::square_place, layout::specs::Flat::entry_place, layout::specs::Flat::column_place, crate::specs::Product::first_power, crate::specs::Product::powers))]
 fn add_entry(
     total: Total,
     problem: &Problem,
@@ -86,7 +76,11 @@ fn add_entry(
     let count = powers(basis.lengths[square_place(i, l)], k);
     let x = entry_place(i, l, first);
     let y = column_place(l, j, k - first);
-    add_products(total, &problem.f, &basis.entries, y, x, count)
+    add_products(
+        total,
+        &basis.entries[x..x + count],
+        &problem.f[y + 1 - count..y + 1],
+    )
 }
 
 // problem, basis: of a claim. i, j: a row and a column. k: a power, at most the largest order.

@@ -1,4 +1,4 @@
-use Rattle.std.proofs.Common.{◌+◌, ◌*◌, ◌-◌, ◌^◌, ◌<◌, sym, ap, ap₂, subst, ◌∙◌}
+use Rattle.std.proofs.Common.{◌+◌, ◌*◌, ◌-◌, ◌^◌, ◌<◌, get_or, length, zero-add, sym, ap, ap₂, subst, ◌∙◌}
 use Rattle.rules.specs.Conditions.{sum_below}
 use Rattle.layout.specs.Words.{product_small}
 use Rattle.product.specs.Total.{grown_none, grown_more}
@@ -13,12 +13,12 @@ loop-t-init c = grown_none _ _
 small : (c : goal.After-from-in-loop-t) → c.from.result * c.from-in-loop-t.result < 2 ^ 62
 small c =
     product_small {x = c.from.result} {y = c.from-in-loop-t.result}
-    (subst (λ n. n < 2 ^ 31) (sym c.from.ensures) (c.requires.each.0 (c.args.x + c.loop-t.t)))
-    (subst (λ n. n < 2 ^ 31) (sym c.from-in-loop-t.ensures) (c.requires.each.1 (c.args.y - c.loop-t.t)))
+    (subst (λ n. n < 2 ^ 31) (sym c.from.ensures) (c.requires.each.0 c.loop-t.t))
+    (subst (λ n. n < 2 ^ 31) (sym c.from-in-loop-t.ensures) (c.requires.each.1 (length c.args.down.now - 1 - c.loop-t.t)))
 
 pub loop-t-preserved : goal.loop-t-preserved
 loop-t-preserved c =
     grown_more (c.from.result * c.from-in-loop-t.result) c.loop-t.invariant (small c)
-    (dot_more c.args.entries.now c.args.f.now c.args.x c.args.y c.loop-t.t
-    ∙ ap (λ n. dot c.args.entries.now c.args.f.now c.args.x c.args.y c.loop-t.t + n)
-    (sym (ap₂ ◌*◌ c.from.ensures c.from-in-loop-t.ensures)))
+    (dot_more c.args.up.now c.args.down.now 0 (length c.args.down.now - 1) c.loop-t.t
+    ∙ ap (λ n. dot c.args.up.now c.args.down.now 0 (length c.args.down.now - 1) c.loop-t.t + n)
+    (ap₂ ◌*◌ (ap (λ k. get_or c.args.up.now k 0) (zero-add c.loop-t.t) ∙ sym c.from.ensures) (sym c.from-in-loop-t.ensures)))
