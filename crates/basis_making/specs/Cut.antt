@@ -1,18 +1,25 @@
 -- The problem cut to the steps done, in arrays.
---   cut_orders, cut_number, cut_columns, cut_head      its orders, the coefficients of F, and the numbers beside F
---   Cutting, cutting_start, …          lists that are changed number by number
---   cut_head_sound, cut_columns_sound  what the code asks of them
---   cut_is                   the problem that they stand for
-use Rattle.std.specs.Prelude.{◌≡◌, refl, Bool, ltb, length, set, take}
-use Rattle.std.proofs.Common.{sym, subst, ◌∙◌, le_of_suc-le-suc, zero-lt-suc, add-zero, arith, lt-ltb, le-ltb, length-set, get_or-set_same, get_or-set_other}
-use Rattle.std.proofs.Math.Path.{ap, ap₂, fun_ext}
+--   cut_orders, cut_number, cut_columns, cut_head, cut_arrays    its orders, the coefficients of F, the numbers beside F, and all
+--   Cutting, cutting_all     lists that are changed number by number
+--   largest_is               the largest order
+--   cut_sound                what the code asks of them
+--   cut_means                the problem that they stand for
+--   done_is                  the steps done
+use Rattle.std.specs.Prelude.{◌≡◌, refl, Bool, ltb, length, take}
+use Rattle.std.proofs.Common.{sym, ◌∙◌, le_of_suc-le-suc, zero-lt-suc, arith, lt-ltb, le-ltb}
+use Rattle.std.proofs.Math.Path.{ap, ap₂}
 use Rattle.std.proofs.Math.Logic.{by_cases}
 use Rattle.std.proofs.Math.Bool.{true, false, cond}
 use mathlib.Core.List.{List, [], ◌∷◌}
-use Prim.Native.Nat.{ℕ, zero, suc, min, max, ◌+◌, ◌-◌, ◌%◌, ◌≤◌, ◌<◌, zero-le, suc-le-suc}
+use Prim.Native.Nat.{ℕ, zero, suc, min, max, ◌%◌, ◌≤◌, ◌<◌, zero-le, suc-le-suc}
 use Rattle.std.proofs.Math.Nat.{le_of_lt, lt_of_lt_of_le}
-use Rattle.std.proofs.Math.Decide.{ℕ_discrete, dec_lt}
+use Rattle.std.proofs.Math.Decide.{dec_lt}
 use Rattle.std.proofs.Math.ListN.{get_or}
+use Rattle.std.specs.List.{fold, reduce}
+use Rattle.std.proofs.lemmas.List.{map-id}
+use Rattle.std.specs.Option.{unwrap_or}
+use Rattle.std.specs.Ordering.{nat_cmp, max_by_ordering}
+use Rattle.std.proofs.lemmas.List.Folds.{max_of_map}
 use Rattle.rules.specs.Sizes.{most_rows, most_order}
 use Rattle.rules.specs.Matrices.{order, at}
 use Rattle.rules.specs.Conditions.{max_below}
@@ -21,8 +28,9 @@ use Rattle.rules.specs.Maker.{steps_done, cut_problem}
 use Rattle.layout.specs.Flat.{column_coefficients, column_place, column_cell, column_cell_at, column_cell_past}
 use Rattle.layout.specs.Holds.{Each}
 use Rattle.claim.specs.declared.Head.{Head}
-use Rattle.claim.specs.Claims.{orders_of, columns_of, problem_of}
-use Rattle.claim.specs.Sound.{SoundHead, SoundColumns}
+use Rattle.claim.specs.declared.Problem.{Problem as ProblemArrays}
+use Rattle.claim.specs.Claims.{orders_of, columns_of, problem_of, problem_in}
+use Rattle.claim.specs.Sound.{SoundHead, SoundColumns, SoundProblem}
 use Rattle.claim.specs.Holds.{holds_orders}
 
 unfoldable pub cut_orders : List ℕ → ℕ → List ℕ
@@ -37,6 +45,9 @@ cut_columns f done = table column_coefficients (cut_number f done)
 abbrev pub cut_head : Head → ℕ → Head
 cut_head head done = record { p = head.p; m = head.m; n = head.n; orders = cut_orders head.orders done; shifts = head.shifts }
 
+abbrev pub cut_arrays : ProblemArrays → ℕ → ProblemArrays
+cut_arrays b done = record { head = cut_head b.head done; f = cut_columns b.f done }
+
 -- LISTS THAT ARE CHANGED NUMBER BY NUMBER
 
 -- Of a list of n numbers the first k were changed by g.
@@ -46,38 +57,25 @@ pub record Cutting (n : ℕ) (g : ℕ → ℕ) (before : List ℕ) (k : ℕ) (af
   pub same : (a : ℕ) → k ≤ a → get_or after a 0 ≡ get_or before a 0
 
 module _ (n : ℕ) (g : ℕ → ℕ) (before : List ℕ) where
-  pub cutting_start : length before ≡ n → Cutting n g before 0 before
-  cutting_start full = record { full = full; changed = λ a h. absurd (omega arith); same = λ a h. refl }
-
-  pub cutting_more : (k : ℕ) (after : List ℕ) (x : ℕ) → k < n → x ≡ g k → Cutting n g before k after → Cutting n g before (k + 1) (set after k x)
-  cutting_more k after x hk e so_far = record {
-    full = length-set after k x ∙ so_far.full;
-    changed = λ a h. by_cases (ℕ_discrete a k)
-        (λ z. ap (λ a. get_or (set after k x) a 0) z ∙ get_or-set_same after k x 0 (subst (λ n. k < n) (sym so_far.full) hk) ∙ e ∙ ap g (sym z))
-        (λ ne. get_or-set_other after k a x 0 ne ∙ so_far.changed a (omega arith));
-    same = λ a h. get_or-set_other after k a x 0 (λ z. absurd (omega arith)) ∙ so_far.same a (omega arith);
-  }
-
-  pub cutting_passed : (k : ℕ) (after : List ℕ) → get_or before k 0 ≡ g k → Cutting n g before k after → Cutting n g before (k + 1) after
-  cutting_passed k after e so_far = record {
-    full = so_far.full;
-    changed = λ a h. by_cases (ℕ_discrete a k)
-        (λ z. ap (λ a. get_or after a 0) z ∙ so_far.same k (omega arith) ∙ e ∙ ap g (sym z)) (λ ne. so_far.changed a (omega arith));
-    same = λ a h. so_far.same a (omega arith);
-  }
-
-  pub cutting_all : (after : List ℕ) → Cutting n g before n after → after ≡ table n g
-  cutting_all after h = table_ext n g 0 after h.full h.changed
+  pub cutting_all : (k : ℕ) (after : List ℕ) → n ≤ k → Cutting n g before k after → after ≡ table n g
+  cutting_all k after all h = table_ext n g 0 after h.full (λ a ha. h.changed a (omega arith))
 
 -- THE LARGEST ORDER
 
-pub max_below_more : (f : ℕ → ℕ) (n j : ℕ) → suc j ≤ n → max_below (n - j) (λ i. f (j + i)) ≡ max (f j) (max_below (n - suc j) (λ i. f (suc j + i)))
+largest_from : (a n : ℕ) (xs : List ℕ) → n ≤ length xs → fold (λ b x. max b x) a (take n xs) ≡ max a (max_below n (λ j. get_or xs j 0))
 unfolding max_below
-max_below_more f n j h =
-    let one_more : n - j ≡ suc (n - suc j) = omega arith in
-    let later : (i : ℕ) → j + suc i ≡ suc j + i = λ i. omega arith in
-    ap (λ k. max_below k (λ i. f (j + i))) one_more
-    ∙ ap₂ max (ap f (add-zero j)) (ap (max_below (n - suc j)) (fun_ext (λ i. ap f (later i))))
+largest_from a zero xs h = omega arith
+largest_from a (suc n) [] h = absurd (omega arith)
+largest_from a (suc n) (x ∷ xs) h = largest_from (max a x) n xs (le_of_suc-le-suc h) ∙ omega arith
+
+-- The library's way to the largest of the first n numbers.
+pub largest_is : (n : ℕ) (xs : List ℕ) → n ≤ length xs
+    → unwrap_or (reduce (λ p z. max_by_ordering (nat_cmp p z) p z) (take n xs)) 0 ≡ max_below n (λ j. get_or xs j 0)
+largest_is n xs h =
+    ap (λ l. unwrap_or (reduce (λ p z. max_by_ordering (nat_cmp p z) p z) l) 0) (sym (map-id (take n xs)))
+    ∙ max_of_map (λ x. x) (take n xs)
+    ∙ largest_from 0 n xs h
+    ∙ omega arith
 
 max_below_cong : (n : ℕ) (f g : ℕ → ℕ) → ((i : ℕ) → i < n → f i ≡ g i) → max_below n f ≡ max_below n g
 unfolding max_below
@@ -124,7 +122,7 @@ module _ (head : Head) (f : List ℕ) (done : ℕ) (sound_head : SoundHead head)
   unfolding cut_orders
   cut_order_at j hj = get_or_table most_rows (λ j. min (get_or head.orders j 0) done) 0 j hj
 
-  pub cut_head_sound : SoundHead (cut_head head done)
+  cut_head_sound : SoundHead (cut_head head done)
   unfolding cut_orders
   cut_head_sound = record {
     prime = sound_head.prime;
@@ -146,7 +144,7 @@ module _ (head : Head) (f : List ℕ) (done : ℕ) (sound_head : SoundHead head)
       either true x h = h
       either false x h = le_of_lt sound_head.prime.two_le
 
-  pub cut_columns_sound : SoundColumns (cut_head head done) (cut_columns f done)
+  cut_columns_sound : SoundColumns (cut_head head done) (cut_columns f done)
   cut_columns_sound = record { F_below = cut_below; F_ends = λ i j k hi hj h. ends i j k (inside_rows hi) (inside_columns hj) hi hj h }
     where
       inside_rows : {i : ℕ} → i < head.m → i < most_rows
@@ -162,7 +160,7 @@ module _ (head : Head) (f : List ℕ) (done : ℕ) (sound_head : SoundHead head)
           (λ nl. ap (λ t. cond t (column_cell f i j k) 0) (le-ltb k done (omega arith)))
 
   -- The problem that the cut arrays stand for.
-  pub cut_is : problem_of (cut_head head done) (cut_columns f done) ≡ cut_problem (problem_of head f) done
+  cut_is : problem_of (cut_head head done) (cut_columns f done) ≡ cut_problem (problem_of head f) done
   unfolding cut_problem orders_of columns_of
   cut_is = ap₂ (λ (o : List ℕ) (c : List (List (List ℕ))). record { p = head.p; m = head.m; n = head.n; orders = o; shifts = (problem_of head f).shifts; F = c }) orders_are columns_are
     where
@@ -199,3 +197,14 @@ module _ (head : Head) (f : List ℕ) (done : ℕ) (sound_head : SoundHead head)
   pub done_is : (steps : ℕ) → min steps (max_below head.n (λ j. get_or head.orders j 0)) ≡ steps_done (problem_of head f) steps
   unfolding steps_done
   done_is steps = ap (min steps) (max_below_cong head.n (λ j. get_or head.orders j 0) (order (problem_of head f)) (holds_orders head f))
+
+-- What the code asks of the cut problem, and what it stands for.
+module _ (b : ProblemArrays) (done : ℕ) (sound : SoundProblem b) where
+  pub cut_sound : SoundProblem (cut_arrays b done)
+  cut_sound = record {
+    sound_head = cut_head_sound b.head b.f done sound.sound_head sound.sound_columns;
+    sound_columns = cut_columns_sound b.head b.f done sound.sound_head sound.sound_columns;
+  }
+
+  pub cut_means : problem_in (cut_arrays b done) ≡ cut_problem (problem_in b) done
+  cut_means = cut_is b.head b.f done sound.sound_head sound.sound_columns

@@ -2,38 +2,28 @@
 ghost use Rattle.std.specs.Prelude.{◌≡◌, min, ◌≤◌, get_or};
 ghost use Rattle.rules.specs.Sizes.{most_rows};
 ghost use Rattle.rules.specs.Conditions.{max_below};
-ghost use Rattle.basis_making.specs.Cut.{cut_orders, cut_columns, cut_head};
+ghost use Rattle.basis_making.specs.Cut.{cut_orders, cut_columns, cut_head, cut_arrays};
 
-use claim::Head;
+use claim::{Head, Problem};
 use layout::{COLUMN_COEFFICIENTS, ORDER, ROWS};
 
 // head: of a problem.
 // The largest order.
-fn largest_order(head: Head) -> usize
-    requires { head.n ≤ most_rows }
-    ensures { result ≡ max_below head.n (λ j. get_or head.orders j 0) }
+fn largest_order(head: &Head) -> usize
+    requires { head.now.n ≤ most_rows }
+    ensures { result ≡ max_below head.now.n (λ j. get_or head.now.orders j 0) }
 {
-    let mut j = head.n;
-    let mut most = 0;
-    while 0 < j {
-        j -= 1;
-        let order = head.orders[j];
-        if most < order {
-            most = order;
-        }
-    }
-    most
+    let orders = &head.orders[..head.n];
+    orders.iter().copied().max().unwrap_or(0)
 }
 
 // head: of a problem. steps: how many are allowed.
 // How many are done: the smaller of that and the largest order.
-pub(crate) fn steps_done(head: Head, steps: u32) -> usize
-    requires { head.n ≤ most_rows }
-    ensures { result ≡ min steps (max_below head.n (λ j. get_or head.orders j 0)) }
+pub(crate) fn steps_done(head: &Head, steps: u32) -> usize
+    requires { head.now.n ≤ most_rows }
+    ensures { result ≡ min steps (max_below head.now.n (λ j. get_or head.now.orders j 0)) }
 {
-    let most = largest_order(head);
-    let allowed = steps as usize;
-    if allowed < most { allowed } else { most }
+    (steps as usize).min(largest_order(head))
 }
 
 // orders: of the columns. done: a number of steps.
@@ -42,45 +32,44 @@ fn smaller_orders(orders: [usize; ROWS], done: usize) -> [usize; ROWS]
     ensures { result ≡ cut_orders orders done }
 {
     let mut cut = orders;
-    let mut j = 0;
-    while j < ROWS {
-        if done < cut[j] {
-            cut[j] = done;
-        }
-        j += 1;
+    for order in cut.iter_mut() {
+        *order = (*order).min(done);
     }
     cut
 }
 
 // head: of a problem. done: a number of steps.
 // That of the cut problem.
-pub(crate) fn cut_head(head: Head, done: usize) -> Head
-    ensures { result ≡ cut_head head done }
+fn cut_head(head: &Head, done: usize) -> Head
+    ensures { result ≡ cut_head head.now done }
 {
-    let all = head.orders;
-    let orders = smaller_orders(all, done);
-    let shifts = head.shifts;
     Head {
-        p: head.p,
-        m: head.m,
-        n: head.n,
-        orders,
-        shifts,
+        orders: smaller_orders(head.orders, done),
+        ..*head
     }
 }
 
 // f: the coefficients of F. done: a number of steps.
 // Those of the cut problem: 0 from that power on.
-pub(crate) fn cut_columns(f: &[u32; COLUMN_COEFFICIENTS], done: usize) -> [u32; COLUMN_COEFFICIENTS]
+fn cut_columns(f: &[u32; COLUMN_COEFFICIENTS], done: usize) -> [u32; COLUMN_COEFFICIENTS]
     ensures { result ≡ cut_columns f.now done }
 {
-    let mut cut = [0; COLUMN_COEFFICIENTS];
-    let mut place = 0;
-    while place < COLUMN_COEFFICIENTS {
-        if place % ORDER < done {
-            cut[place] = f[place];
+    let mut cut = *f;
+    for place in 0..COLUMN_COEFFICIENTS {
+        if place % ORDER >= done {
+            cut[place] = 0;
         }
-        place += 1;
     }
     cut
+}
+
+// done: a number of steps.
+// The cut problem.
+pub(crate) fn cut_problem(problem: &Problem, done: usize) -> Problem
+    ensures { result ≡ cut_arrays problem.now done }
+{
+    Problem {
+        head: cut_head(&problem.head, done),
+        f: cut_columns(&problem.f, done),
+    }
 }

@@ -1,11 +1,7 @@
-use Prim.Native.Nat.{◌-◌, ◌≤◌}
 use Rattle.rules.specs.Writer.{bytes}
 use Rattle.stepping.specs.Next.{coefficient_at}
 use Rattle.basis_making.specs.Text.{Put}
 use Rattle.basis_making.proofs.text.put_numbers.Given as goal
 
 abbrev pub invariant-loop-t : goal.invariant-loop-t
-invariant-loop-t l = (l.t ≤ l.count) × Put (λ k. bytes 4) (λ t. coefficient_at l.entries l.i l.j t) 4 l.at l.initial.out l.out l.end l.t
-
-abbrev pub decreases-loop-t : goal.decreases-loop-t
-decreases-loop-t l = l.count - l.t
+invariant-loop-t l = Put (λ k. bytes 4) (λ t. coefficient_at l.basis.entries l.i l.j t) 4 l.at l.initial.out l.out l.end l.t
