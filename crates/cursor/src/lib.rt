@@ -1,5 +1,5 @@
 // The fields of the two files: each a number, and the test that it has to pass.
-#![tactic(auto)]
+#![tactic(auto, unfolding(rules::specs::Sizes::largest_prime, rules::specs::Sizes::most_shift))]
 
 ghost use Rattle.std.specs.Prelude.{◌≡◌, Bool, ℕ, ◌+◌, ◌^◌, ◌<◌, nat_abs, leb};
 ghost use Rattle.rules.specs.Reader.{mark, field, unless};

@@ -1,5 +1,5 @@
 // The problem file of document 01, read front to back in one pass.
-#![tactic(auto)]
+#![tactic(auto, unfolding(rules::specs::Sizes::most_rows, rules::specs::Sizes::most_order, layout::specs::Flat::column_place))]
 
 ghost use Rattle.std.specs.Prelude.{◌≡◌};
 ghost use Rattle.rules.specs.Files.{read_problem};

@@ -7,14 +7,6 @@ use Rattle.place.specs.Places.{taken, error_is}
 use Rattle.storing.specs.Records.{then_refused, then_given}
 use Rattle.answer_file.proofs.records.entry_count.Goals as goal
 
-pub overflow_cast-i : goal.overflow_cast-i
-unfolding most_rows
-overflow_cast-i c = omega arith
-
-pub overflow_cast-j : goal.overflow_cast-j
-unfolding most_rows
-overflow_cast-j c = omega arith
-
 pub returns-in_err-q : goal.returns-in_err-q
 unfolding count_reader
 returns-in_err-q c = ap taken (error_is c.from_residual.ensures.1) ∙ sym (then_refused _ c.in_err-q.ensures)

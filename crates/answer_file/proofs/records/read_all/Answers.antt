@@ -14,10 +14,6 @@ use Rattle.storing.specs.Storing.{into, pour, into_got, into_refused, file_end}
 use Rattle.place.specs.Places.{place, going_off, error_is}
 use Rattle.answer_file.proofs.records.read_all.Goals as goal
 
-pub read_entries-requires : goal.read_entries-requires
-unfolding most_rows
-read_entries-requires c = omega (arith, c.requires)
-
 -- What is read where the `CE` record is due, and where it is not.
 parts-by : {b b' : Bool} (p m n : ℕ) (s : List ℕ) (q : Place) → b ≡ b' → answer_parts p m n b s q ≡ answer_parts p m n b' s q
 parts-by p m n s q e = ap (λ (b : Bool). answer_parts p m n b s q) e

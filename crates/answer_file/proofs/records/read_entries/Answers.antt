@@ -12,16 +12,6 @@ use Rattle.storing.specs.Records.{stored_forward}
 use Rattle.storing.specs.Storing.{began, stopped, went_on, ended}
 use Rattle.answer_file.proofs.records.read_entries.Goals as goal
 
-pub loop-i-init : goal.loop-i-init
-unfolding most_rows
-loop-i-init c = (omega arith, began _ _ _ _ _ _)
-
-pub read_row-requires : goal.read_row-requires
-unfolding most_rows
-read_row-requires c =
-    let pre = c.requires in
-    (omega (arith, c.requires), pre.1, omega (arith, c.requires))
-
 pub returns-in_err-here : goal.returns-in_err-here
 unfolding entries_reader
 returns-in_err-here c =

@@ -19,18 +19,6 @@ use Rattle.runs.specs.Rows.{run_gives}
 use Rattle.place.specs.Places.{place, going, going_off, error_is}
 use Rattle.answer_file.proofs.records.read_entry.Goals as goal
 
-pub offset_bounds-basis-square_place : goal.offset_bounds-basis-square_place
-unfolding square_place most_rows
-offset_bounds-basis-square_place c = omega (arith, c.square_place.ensures, c.requires)
-
-pub bounds-basis-square_place : goal.bounds-basis-square_place
-unfolding square_place most_rows
-bounds-basis-square_place c = omega (arith, c.square_place.ensures, c.requires)
-
-pub entry_place-requires : goal.entry_place-requires
-unfolding most_length
-entry_place-requires c = search rules
-
 pub run-requires : goal.run-requires
 unfolding entry_place most_rows most_length
 run-requires c =

@@ -12,10 +12,6 @@ use Rattle.storing.specs.Records.{marked, closed_into, list_numbered, record_ref
 use Rattle.runs.specs.Rows.{block_gives}
 use Rattle.answer_file.proofs.records.read_evidence.Goals as goal
 
-pub block-requires : goal.block-requires
-unfolding most_rows
-block-requires c = omega (arith, c.requires)
-
 pub closed-requires : goal.closed-requires
 closed-requires c =
     list_numbered [] c.block.new.out _ _ _ _ _ c.block.result (block_gives c.block.result c.block.new.out _ _ _ _ _ _ _ _ c.block.ensures)

@@ -8,14 +8,6 @@ use Rattle.storing.specs.Records.{stored_forward}
 use Rattle.storing.specs.Storing.{began, stopped, went_on, ended}
 use Rattle.answer_file.proofs.records.read_row.Goals as goal
 
-pub loop-j-init : goal.loop-j-init
-loop-j-init c = (omega arith, began _ _ _ _ _ _)
-
-pub read_entry-requires : goal.read_entry-requires
-read_entry-requires c =
-    let pre = c.requires in
-    (omega (arith, c.requires), pre.2, omega (arith, c.requires))
-
 pub returns-in_err-here : goal.returns-in_err-here
 returns-in_err-here c =
     going_off _ (error_is c.from_residual.ensures.1) ∙ stopped c.loop-j.invariant.1 c.loop-j-test.true (sym c.in_err-here.ensures)

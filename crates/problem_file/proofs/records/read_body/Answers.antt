@@ -19,10 +19,6 @@ use Rattle.layout.specs.Flat.{filled}
 use Rattle.place.specs.Places.{place, going_off, error_is}
 use Rattle.problem_file.proofs.records.read_body.Goals as goal
 
-pub read_orders-requires : goal.read_orders-requires
-unfolding most_rows
-read_orders-requires c = omega (arith, c.requires.number_bound)
-
 -- What is known of the orders that were read, and of the place after them.
 orders-known : (n : ℕ) (s : List ℕ) (p q : Place) (l : List ℕ) → got l q ≡ OR n s p → Listed n 0 (λ j d. (1 ≤ d) × (d ≤ most_order)) l × Forward (2 + n) 1 s p q
 orders-known n s p q l read = (sound_OR n).gives s p (sym read)

@@ -18,26 +18,6 @@ use Rattle.runs.specs.Rows.{block_gives}
 use Rattle.place.specs.Places.{place}
 use Rattle.problem_file.proofs.records.read_column.Goals as goal
 
-pub offset_bounds-head-j : goal.offset_bounds-head-j
-unfolding most_rows
-offset_bounds-head-j c = omega arith
-
-pub bounds-head-j : goal.bounds-head-j
-unfolding most_rows
-bounds-head-j c = omega arith
-
-pub overflow_cast-j : goal.overflow_cast-j
-unfolding most_rows
-overflow_cast-j c = omega arith
-
-pub column_place-requires : goal.column_place-requires
-unfolding most_rows most_order
-column_place-requires c = search rules
-
-pub block-requires : goal.block-requires
-unfolding column_place most_rows most_order
-block-requires c = omega (arith, c.column_place.ensures, c.requires)
-
 pub closed-requires : goal.closed-requires
 closed-requires c =
     list_numbered [] c.block.new.out _ _ _ _ _ c.block.result (block_gives c.block.result c.block.new.out _ _ _ _ _ _ _ _ c.block.ensures)
