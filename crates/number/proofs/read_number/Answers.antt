@@ -1,4 +1,4 @@
-use Rattle.std.proofs.Common.{◌≡◌, refl, sym, ◌∙◌, ap₂, List, ℕ, ◌+◌, ◌≤◌, length, Bool, true, leb, arith, leb-true, leb-false}
+use Rattle.std.proofs.Common.{◌≡◌, refl, sym, ◌∙◌, ap₂, List, ℕ, ◌+◌, ◌≤◌, length, Bool, true, leb, leb-true, leb-false}
 use Rattle.rules.specs.Reader.{Place, got}
 use Rattle.laws.specs.ReaderLaws.{field_short, field_passed}
 use Rattle.number.proofs.read_number.Goals as goal
@@ -9,12 +9,6 @@ returns-then-not-whole c = sym (field_short _ _ _ _ (leb-false _ _ (sym c.whole.
 -- Past the branch the field is wholly there.
 there : {b : Bool} (s : List ℕ) (at k : ℕ) → b ≡ leb (at + k) (length s) → b ≡ true → at + k ≤ length s
 there s at k e t = leb-true _ _ (sym e ∙ t)
-
-pub joined-requires : goal.joined-requires
-joined-requires c = record { width = c.requires; k_in_bounds = there _ _ _ c.whole.ensures c.if-not-whole.false }
-
-pub past-requires : goal.past-requires
-past-requires c = omega (arith, there _ _ _ c.whole.ensures c.if-not-whole.false)
 
 pub returns : goal.returns
 returns c =

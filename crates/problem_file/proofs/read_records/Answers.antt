@@ -22,7 +22,7 @@ returns-in_err-sizes c =
 pub read_body-requires-clause-number_bound : goal.read_body-requires-clause-number_bound
 read_body-requires-clause-number_bound c =
     let known = sound_PR.gives c.args.s.now (front 0) (sym (at-front c.args.s.now c.in_ok-sizes.ensures c.front.ensures)) in
-    (omega (arith, known.1.number), known.0.rows_most, known.0.columns_most)
+    omega (arith, known.1.number, known.0.rows_most, known.0.columns_most)
 
 pub returns : goal.returns
 returns c =

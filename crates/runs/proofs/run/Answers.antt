@@ -1,13 +1,10 @@
 -- The loop's invariant: the steps that are left do the whole work (`Reached`).
-use mathlib.Core.Path.{refl, ◌∙◌}
+use mathlib.Core.Path.{◌∙◌}
 use lib.ListN.{length-set}
 use Rattle.place.specs.Places.{error_is}
-use Rattle.runs.specs.Stored.{begun, off, on, through, store_off, store_on, stored_off}
+use Rattle.runs.specs.Stored.{off, on, through, store_off, store_on, stored_off}
 use Rattle.runs.specs.Rows.{run_stored}
 use Rattle.runs.proofs.run.Goals as goal
-
-pub loop-k-init : goal.loop-k-init
-loop-k-init c = (refl, begun _ _ _ _)
 
 pub returns-in_err-v : goal.returns-in_err-v
 unfolding run_stored

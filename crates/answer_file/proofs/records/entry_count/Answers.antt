@@ -1,7 +1,6 @@
 -- `answer_file::records::entry_count` meets its contract. Assumes nothing.
 use mathlib.Core.Path.{sym, ap, ◌∙◌}
-use native.Mathlib.Omega.{arith}
-use Rattle.rules.specs.Sizes.{most_rows, most_length}
+use Rattle.rules.specs.Sizes.{most_length}
 use Rattle.answer_file.specs.Counts.{count_reader}
 use Rattle.place.specs.Places.{taken, error_is}
 use Rattle.storing.specs.Records.{then_refused, then_given}

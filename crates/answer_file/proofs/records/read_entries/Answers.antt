@@ -9,7 +9,7 @@ use Rattle.laws.specs.ReaderLaws.{sound_each}
 use Rattle.laws.specs.Soundness.{sound_PE}
 use Rattle.place.specs.Places.{going_off, error_is}
 use Rattle.storing.specs.Records.{stored_forward}
-use Rattle.storing.specs.Storing.{began, stopped, went_on, ended}
+use Rattle.storing.specs.Storing.{stopped, went_on, ended}
 use Rattle.answer_file.proofs.records.read_entries.Goals as goal
 
 pub returns-in_err-here : goal.returns-in_err-here

@@ -4,7 +4,6 @@ use mathlib.Core.List.{List}
 use Prim.Native.Nat.{ℕ}
 use native.Mathlib.Omega.{arith}
 use lib.ListN.{set}
-use borrow.Author.Rules.{rules}
 use Rattle.rules.specs.Sizes.{most_rows, most_length}
 use Rattle.rules.specs.Reader.{each, field}
 use Rattle.rules.specs.Files.{PE_mark, PE, coefficient_test}

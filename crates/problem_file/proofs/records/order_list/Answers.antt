@@ -1,14 +1,11 @@
 -- `problem_file::records::order_list` meets its contract. The loop's invariant: what is still to be read, stored into what stands there by now, is the whole
 -- work (`Kept`). Assumes nothing.
-use mathlib.Core.Path.{refl, ◌∙◌}
+use mathlib.Core.Path.{◌∙◌}
 use lib.ListN.{length-set}
 use Rattle.rules.specs.Sizes.{most_order}
 use Rattle.place.specs.Places.{going_off, error_is}
-use Rattle.storing.specs.Storing.{began, stopped, went_on, ended, into_off, into_on}
+use Rattle.storing.specs.Storing.{stopped, went_on, ended, into_off, into_on}
 use Rattle.problem_file.proofs.records.order_list.Goals as goal
-
-pub loop-j-init : goal.loop-j-init
-loop-j-init c = (refl, began _ _ _ _ _ _)
 
 pub returns-in_err-v : goal.returns-in_err-v
 unfolding most_order

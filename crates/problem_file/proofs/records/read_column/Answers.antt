@@ -4,12 +4,10 @@ use mathlib.Core.List.{[]}
 use Prim.Native.Nat.{ℕ}
 use lib.ListN.{get_or}
 use native.Mathlib.Omega.{arith}
-use borrow.Author.Rules.{rules}
-use Rattle.rules.specs.Sizes.{most_rows, most_order}
+use Rattle.rules.specs.Sizes.{most_order}
 use Rattle.rules.specs.Reader.{each, field}
 use Rattle.rules.specs.Files.{FC_mark, FC, residue}
 use Rattle.laws.specs.Soundness.{sound_row}
-use Rattle.layout.specs.Flat.{column_place}
 use Rattle.place.specs.Places.{going_off, error_is}
 use Rattle.storing.specs.Flat.{put_column, block_into}
 use Rattle.storing.specs.Storing.{into}

@@ -1,21 +1,12 @@
 -- `problem_file::records::read_columns` meets its contract. The loop's invariant: what is still to be read, stored into what stands there by now, is the whole
 -- work (`Kept`). Assumes nothing.
-use mathlib.Core.Path.{refl, sym, ◌∙◌}
+use mathlib.Core.Path.{sym, ◌∙◌}
 use native.Mathlib.Omega.{arith}
 use Rattle.laws.specs.Soundness.{sound_FC}
 use Rattle.place.specs.Places.{going_off, error_is}
 use Rattle.storing.specs.Records.{stored_forward}
-use Rattle.storing.specs.Storing.{began, stopped, went_on, ended}
+use Rattle.storing.specs.Storing.{stopped, went_on, ended}
 use Rattle.problem_file.proofs.records.read_columns.Goals as goal
-
-pub loop-j-init : goal.loop-j-init
-loop-j-init c = (refl, omega arith, began _ _ _ _ _ _)
-
-pub read_column-requires : goal.read_column-requires
-read_column-requires c =
-    let pre = c.requires in
-    let loop = c.loop-j in
-    (omega (arith, pre.n_bound), pre.n_bound.1, pre.by_index loop.j, omega (arith, pre.n_bound), loop.invariant.0 ∙ pre.out_len)
 
 pub returns-in_err-here : goal.returns-in_err-here
 returns-in_err-here c =

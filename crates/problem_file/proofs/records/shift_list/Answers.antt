@@ -1,17 +1,14 @@
 -- `problem_file::records::shift_list` meets its contract. The loop's invariant: what is still to be read, stored into what stands there by now, is the whole
 -- work (`Kept`). Assumes nothing.
-use mathlib.Core.Path.{refl, ◌∙◌}
+use mathlib.Core.Path.{◌∙◌}
 use lib.ListN.{length-set}
 use borrow.Author.Rules.{rules}
 use mir.Facts.{to_z-of_z}
 use mir.Syntax.{w32}
 use Rattle.place.specs.Places.{going_off, error_is}
-use Rattle.storing.specs.Storing.{began, stopped, went_on, ended}
+use Rattle.storing.specs.Storing.{stopped, went_on, ended}
 use Rattle.problem_file.specs.Shifts.{shift_off, shift_on, two_bytes}
 use Rattle.problem_file.proofs.records.shift_list.Goals as goal
-
-pub loop-i-init : goal.loop-i-init
-loop-i-init c = (refl, began _ _ _ _ _ _)
 
 pub returns-in_err-v : goal.returns-in_err-v
 returns-in_err-v c =
