@@ -1,7 +1,5 @@
 -- The contract of `basis_after` leaves one result.
-use mathlib.Core.Path.{◌≡◌, refl, sym, ap₂, ◌∙◌}
-use mathlib.Core.List.{List}
-use Prim.Native.Nat.{ℕ}
+use Rattle.std.proofs.Common.{◌≡◌, refl, sym, ap₂, ◌∙◌, List, ℕ}
 use Rattle.unique.specs.OneResult.{OneResult}
 use Rattle.rules.specs.Claim.{Problem}
 use Rattle.claim.specs.declared.Basis.{Basis}

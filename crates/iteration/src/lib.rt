@@ -18,7 +18,7 @@ use crate::start::start_of;
 use claim::{Basis, Problem};
 use layout::ENTRY_COEFFICIENTS;
 
-// done: a number of steps, at most the largest order that is allowed.
+// problem: one that is valid. done: a number of steps, at most the largest order that is allowed.
 // The coefficients of P after so many steps.
 fn entries_after(problem: &Problem, done: usize) -> [u32; ENTRY_COEFFICIENTS]
     requires sound_head { SoundHead problem.now.head × (SoundColumns problem.now.head problem.now.f × ValidProblem (problem_in problem.now)) }
@@ -32,7 +32,7 @@ fn entries_after(problem: &Problem, done: usize) -> [u32; ENTRY_COEFFICIENTS]
     state.entries
 }
 
-// done: a number of steps, at most the largest order that is allowed.
+// problem: one that is valid. done: a number of steps, at most the largest order that is allowed.
 // P after so many steps.
 pub fn basis_after(problem: &Problem, done: usize) -> Basis
     requires sound_head { SoundHead problem.now.head × (SoundColumns problem.now.head problem.now.f × ValidProblem (problem_in problem.now)) }

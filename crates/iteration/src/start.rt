@@ -49,6 +49,7 @@ fn products(f: &[u32; COLUMN_COEFFICIENTS]) -> [u32; ENTRY_COEFFICIENTS]
     rows
 }
 
+// problem: one with no more rows than are allowed.
 // P, P·F and the row degrees before any step.
 pub(crate) fn start_of(problem: &Problem) -> State
     requires { problem.now.head.m ≤ most_rows }

@@ -1,9 +1,5 @@
 -- The contract of `choose` leaves one result.
-use mathlib.Core.Path.{◌≡◌, refl, sym, ap₂, ◌∙◌}
-use mathlib.Core.List.{List}
-use Prim.Native.Nat.{ℕ, ◌<◌}
-use native.Mathlib.Nat.{le_of_lt}
-use lib.Seq.{ext_get_or}
+use Rattle.std.proofs.Common.{◌≡◌, refl, sym, ap₂, ◌∙◌, List, ℕ, ◌<◌, le_of_lt, ext_get_or}
 use Rattle.unique.specs.OneResult.{OneResult}
 use Rattle.rules.specs.Maker.{Chosen}
 use Rattle.pivots.specs.declared.Choice.{Choice}

@@ -1,11 +1,7 @@
 -- The contract of `step_rows` leaves one array at the end.
-use mathlib.Core.Path.{◌≡◌, refl, sym, ◌∙◌}
-use mathlib.Core.Logic.{by_cases}
-use mathlib.Core.List.{List}
-use Prim.Native.Nat.{ℕ}
-use native.Mathlib.Decide.{ℕ_discrete, dec_lt}
-use native.Mathlib.Omega.{arith}
-use lib.ListN.{get_or}
+use Rattle.std.proofs.Common.{◌≡◌, refl, sym, ◌∙◌, List, ℕ, get_or, arith}
+use Rattle.std.proofs.Math.Logic.{by_cases}
+use Rattle.std.proofs.Math.Decide.{ℕ_discrete, dec_lt}
 use Rattle.unique.specs.OneResult.{OneResult}
 use Rattle.pivots.specs.Rows.{number_of_residue}
 use Rattle.stepping.specs.Next.{Next}
