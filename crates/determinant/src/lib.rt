@@ -25,6 +25,21 @@ use field::{Modulus, neg_mod};
 use layout::{ROWS, entry_place, square_place};
 use polynomial::Polynomial;
 
+// A square of the matrix: its last `size` rows, which start at `row`, and the first `size` of the columns that are listed.
+#[derive(Clone, Copy)]
+struct Square {
+    size: usize,
+    row: usize,
+    columns: [usize; ROWS],
+}
+
+// What the squares of a matrix have in common: for each row a bound on the powers in a determinant of the rows from there on, and the modulus.
+#[derive(Clone, Copy)]
+struct Limits {
+    tops: [usize; ROWS],
+    modulus: Modulus,
+}
+
 // x: a number below p. j: a column.
 // x with the sign of the column, modulo p: x itself in the even columns, its negative in the odd ones.
 fn with_sign(x: u32, j: usize, p: u32) -> u32
@@ -87,33 +102,19 @@ fn without(columns: &[usize; ROWS], j: usize) -> [usize; ROWS]
     left
 }
 
-// basis: a matrix, its coefficients below p. tops: for each row, a bound on the powers in a determinant of the rows from there on.
-// size and row: the square's last `size` rows of the matrix start at `row`. columns: the first `size` of these are its columns.
+// basis: a matrix, its coefficients below p. limits: of the matrix. square: a square of it.
 // The determinant of the square, each coefficient below p: of one entry, that entry; of a larger square, by its first row.
 #[cycle(determinant_expand_row)]
-fn determinant(
-    basis: &Basis,
-    tops: &[usize; ROWS],
-    modulus: Modulus,
-    size: usize,
-    row: usize,
-    columns: &[usize; ROWS],
-) -> [u32; CAPACITY]
-    requires { Asked modulus size row basis.now.entries basis.now.lengths tops.now columns.now }
-    ensures { Determinant modulus.p size row basis.now.entries tops.now columns.now result }
+fn determinant(basis: &Basis, limits: &Limits, square: &Square) -> [u32; CAPACITY]
+    requires { Asked limits.now.modulus square.now.size square.now.row basis.now.entries basis.now.lengths limits.now.tops square.now.columns }
+    ensures { Determinant limits.now.modulus.p square.now.size square.now.row basis.now.entries limits.now.tops square.now.columns result }
 {
-    if size == 1 {
-        let column = columns[0];
-        signed_entry(
-            basis,
-            row,
-            column,
-            entry_length(basis, row, column),
-            0,
-            modulus.p,
-        )
+    if square.size == 1 {
+        let column = square.columns[0];
+        let length = entry_length(basis, square.row, column);
+        signed_entry(basis, square.row, column, length, 0, limits.modulus.p)
     } else {
-        expand_row(basis, tops, modulus, size, row, columns)
+        expand_row(basis, limits, square)
     }
 }
 
@@ -121,30 +122,29 @@ fn determinant(
 // The signed sum of the first row's entries times the determinants of the squares left. A zero entry costs nothing, each product is as
 // long as its factors, and the sums of all products are divided by p once.
 #[cycle(determinant_expand_row)]
-fn expand_row(
-    basis: &Basis,
-    tops: &[usize; ROWS],
-    modulus: Modulus,
-    size: usize,
-    row: usize,
-    columns: &[usize; ROWS],
-) -> [u32; CAPACITY]
-    requires asked { Asked modulus size row basis.now.entries basis.now.lengths tops.now columns.now }
-    requires le_size { 2 ≤ size }
-    ensures { Determinant modulus.p size row basis.now.entries tops.now columns.now result }
+fn expand_row(basis: &Basis, limits: &Limits, square: &Square) -> [u32; CAPACITY]
+    requires asked { Asked limits.now.modulus square.now.size square.now.row basis.now.entries basis.now.lengths limits.now.tops square.now.columns }
+    requires le_size { 2 ≤ square.now.size }
+    ensures { Determinant limits.now.modulus.p square.now.size square.now.row basis.now.entries limits.now.tops square.now.columns result }
 {
+    let row = square.row;
     let mut sums = no_sums();
-    for j in 0..size {
-        let column = columns[j];
+    for j in 0..square.size {
+        let column = square.columns[j];
         let length = entry_length(basis, row, column);
         if 0 < length {
-            let left = without(columns, j);
-            let minor = determinant(basis, tops, modulus, size - 1, row + 1, &left);
-            let entry = signed_entry(basis, row, column, length, j, modulus.p);
-            add_product(&mut sums, &entry, length, &minor, tops[row + 1], modulus);
+            let left = Square {
+                size: square.size - 1,
+                row: row + 1,
+                columns: without(&square.columns, j),
+            };
+            let minor = determinant(basis, limits, &left);
+            let entry = signed_entry(basis, row, column, length, j, limits.modulus.p);
+            let top = limits.tops[row + 1];
+            add_product(&mut sums, &entry, length, &minor, top, limits.modulus);
         }
     }
-    residues(&sums, tops[row], modulus.p)
+    residues(&sums, limits.tops[row], limits.modulus.p)
 }
 
 // basis: an m × m matrix. i: a row of it.
@@ -195,9 +195,16 @@ pub fn determinant_of(basis: &Basis, modulus: Modulus, m: usize) -> Polynomial
     requires { Made modulus × Holds modulus.p m basis.now.entries basis.now.lengths }
     ensures { Coefficients modulus.p (det (Series (K modulus.p)) m (cells modulus.p basis.now.entries)) result }
 {
-    let tops = row_tops(basis, m);
-    let columns = all_columns();
-    let l = determinant(basis, &tops, modulus, m, 0, &columns);
-    let length = length_of(&l, tops[0] + 1);
+    let limits = Limits {
+        tops: row_tops(basis, m),
+        modulus,
+    };
+    let whole = Square {
+        size: m,
+        row: 0,
+        columns: all_columns(),
+    };
+    let l = determinant(basis, &limits, &whole);
+    let length = length_of(&l, limits.tops[0] + 1);
     unpadded(&l, length)
 }

@@ -20,10 +20,10 @@ whole p m entries tops columns l few in_order stands =
     subst (λ f. StandsFor p (get_or tops 0 0) f l) (whole_square p m entries columns few in_order) stands
 
 pub length_of-length-requires : goal.length_of-length-requires
-length_of-length-requires c = work_zeros (c.row_tops-tops.ensures.high 0) (whole c.args.modulus.p c.args.m c.args.basis.now.entries c.row_tops-tops.result c.all_columns-columns.result c.determinant-l.result c.requires.1.few_rows c.all_columns-columns.ensures c.determinant-l.ensures)
+length_of-length-requires c = work_zeros (c.row_tops.ensures.high 0) (whole c.args.modulus.p c.args.m c.args.basis.now.entries c.row_tops.result c.all_columns.result c.determinant-l.result c.requires.1.few_rows c.all_columns.ensures c.determinant-l.ensures)
 
 pub returns : goal.returns
 returns c =
-    unpadded_coefficients (c.row_tops-tops.ensures.high 0)
-    (whole c.args.modulus.p c.args.m c.args.basis.now.entries c.row_tops-tops.result c.all_columns-columns.result c.determinant-l.result c.requires.1.few_rows c.all_columns-columns.ensures c.determinant-l.ensures) c.length_of-length.ensures
+    unpadded_coefficients (c.row_tops.ensures.high 0)
+    (whole c.args.modulus.p c.args.m c.args.basis.now.entries c.row_tops.result c.all_columns.result c.determinant-l.result c.requires.1.few_rows c.all_columns.ensures c.determinant-l.ensures) c.length_of-length.ensures
     c.unpadded.ensures
