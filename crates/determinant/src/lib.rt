@@ -19,6 +19,8 @@ ghost use Rattle.determinant.specs.Tops.{Tops, RowTop};
 ghost use Rattle.determinant.specs.Square.{Holds, Asked, Determinant, Without};
 ghost use Rattle.determinant.specs.Expansion.{InOrder};
 
+use std::array;
+
 use claim::Basis;
 use convolution::{CAPACITY, add_product, length_of, no_coefficients, no_sums, residues, unpadded};
 use field::{Modulus, neg_mod};
@@ -181,11 +183,7 @@ fn row_tops(basis: &Basis, m: usize) -> [usize; ROWS]
 fn all_columns() -> [usize; ROWS]
     ensures { InOrder result }
 {
-    let mut columns = [0; ROWS];
-    for j in 0..ROWS {
-        columns[j] = j;
-    }
-    columns
+    array::from_fn(|j| j)
 }
 
 // basis: an m × m matrix of polynomials modulo p, its coefficients below p, an entry's coefficients followed by zeros. modulus: its p is
