@@ -2,6 +2,7 @@
 //
 // A polynomial stands in an array of CAPACITY numbers: two zeros, its coefficients from power 0 on, then zeros, at least two of them. With
 // these zeros the product of two polynomials needs no case for its ends.
+// Proofs see the sizes of document 01 and of these arrays as numbers.
 #![tactic(auto, unfolding(crate::specs::Padded::capacity, polynomial::specs::Coefficients::most_power, rules::specs::Sizes::most_rows, rules::specs::Sizes::most_length))]
 
 ghost use Rattle.std.specs.Prelude.{◌≡◌, ◌+◌, ◌*◌, ◌^◌, ◌≤◌, ◌<◌, length, replicate};

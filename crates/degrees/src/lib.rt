@@ -1,4 +1,5 @@
 // Document 01, condition 1: the degrees of the rows for the shifts, which may be negative, and their sum. A row of zeros has none.
+// Proofs see the sizes of document 01 as numbers, and the places in flat arrays by their rows and columns.
 #![tactic(auto, unfolding(rules::specs::Sizes::most_rows, rules::specs::Sizes::most_length, rules::specs::Sizes::most_shift, layout::specs::Flat::square_place))]
 
 ghost use Rattle.std.specs.Prelude.{◌≡◌, ◌+◌, ◌^◌, ◌<◌, ◌≤◌, nat_abs, ◌-ℤ◌};

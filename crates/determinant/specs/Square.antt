@@ -3,8 +3,12 @@
 --   square p entries row columns   the square of the rows from `row` on and the columns that a list names
 --   Asked                    what is asked for the determinant of a square
 --   Determinant              the array of a square's determinant
---   Without j columns left   the columns without the j-th
-use Rattle.std.specs.Prelude.{◌≡◌, refl, List, ℕ, zero, suc, ◌+◌, ◌-◌, ◌^◌, ◌≤◌, ◌<◌, get_or}
+--   Without j columns left   the columns without the j-th: removed_without
+use Rattle.std.specs.Prelude.{◌≡◌, refl, List, ◌++◌, ℕ, zero, suc, ◌+◌, ◌-◌, ◌^◌, ◌≤◌, ◌<◌, length, get_or}
+use Rattle.std.specs.List.{remove}
+use Rattle.std.proofs.Math.Decide.{dec_lt}
+use Rattle.std.proofs.Math.ListN.{get_or-append}
+use Rattle.std.proofs.lemmas.List.Edits.{length-remove, get_or-remove_below, get_or-remove_above}
 use Rattle.std.proofs.Common.{sym, ap, subst, ◌∙◌, le_of_suc-le-suc, not-suc-le-zero, add-one, arith}
 use Rattle.algebra.specs.Sum.{skip}
 use Rattle.algebra.specs.Residue.{K}
@@ -59,6 +63,16 @@ unfolding skip
 skip_high zero k h = sym (add-one k)
 skip_high (suc j) zero h = absurd (omega arith)
 skip_high (suc j) (suc k) h = ap suc (skip_high j k (le_of_suc-le-suc h)) ∙ omega arith
+
+-- So the columns are left where the j-th is taken out, whatever stands behind them.
+pub removed_without : (j : ℕ) (columns rest : List ℕ) → length columns ≡ most_rows → j < most_rows → Without j columns (remove columns j ++ rest)
+removed_without j columns rest long h k b =
+    let there : j < length columns = omega (arith, long) in
+    get_or-append (remove columns j) rest 0 k (omega (arith, long, length-remove columns j there))
+    ∙ elim (dec_lt k j) [
+      | yes low ↦ get_or-remove_below columns j 0 k low there ∙ sym (ap (λ i. get_or columns i 0) (skip_low j k low))
+      | no high ↦ get_or-remove_above columns j 0 k (omega arith) there ∙ sym (ap (λ i. get_or columns i 0) (skip_high j k (omega arith)))
+    ]
 
 module _ {μ : Modulus} {size row : ℕ} {entries lengths tops columns : List ℕ} (asked : Asked μ size row entries lengths tops columns) where
   -- The first row and the columns of a square are within the matrix.

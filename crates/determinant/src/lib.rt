@@ -2,12 +2,12 @@
 // determinants of the squares left. It is taken over polynomials, not at points." No square is copied: the entries stay in the one flat
 // array that the caller lends, and a square is the number of its first row and the list of its columns.
 // A polynomial of the work stands in an array as `convolution` has it.
+// Proofs see the sizes of document 01 as numbers, and the places in flat arrays by their rows and columns.
 #![tactic(auto, unfolding(rules::specs::Sizes::most_rows, rules::specs::Sizes::most_length, layout::specs::Flat::square_place, layout::specs::Flat::entry_place, polynomial::specs::Coefficients::most_power))]
 
 ghost use Rattle.std.specs.Prelude.{◌≡◌, ◌+◌, ◌≤◌, ◌<◌};
 ghost use Rattle.algebra.specs.Residue.{K};
 ghost use Rattle.algebra.proofs.Series.{Series};
-ghost use Rattle.algebra.specs.Sum.{skip};
 ghost use Rattle.algebra.specs.Det.{det};
 ghost use Rattle.rules.specs.Sizes.{most_rows, most_length};
 ghost use Rattle.field.specs.Modulus.{Made};
@@ -19,13 +19,12 @@ ghost use Rattle.determinant.specs.Tops.{Tops, RowTop};
 ghost use Rattle.determinant.specs.Square.{Holds, Asked, Determinant, Without};
 ghost use Rattle.determinant.specs.Expansion.{InOrder};
 
-use std::array;
-
 use claim::Basis;
 use convolution::{CAPACITY, add_product, length_of, no_coefficients, no_sums, residues, unpadded};
 use field::{Modulus, neg_mod};
 use layout::{ROWS, entry_place, square_place};
 use polynomial::Polynomial;
+use std::array;
 
 // A square of the matrix: its last `size` rows, which start at `row`, and the first `size` of the columns that are listed.
 #[derive(Clone, Copy)]
@@ -35,7 +34,8 @@ struct Square {
     columns: [usize; ROWS],
 }
 
-// What the squares of a matrix have in common: for each row a bound on the powers in a determinant of the rows from there on, and the modulus.
+// What the squares of a matrix have in common: for each row a bound on the powers in a determinant of the rows from there on, and the
+// modulus.
 #[derive(Clone, Copy)]
 struct Limits {
     tops: [usize; ROWS],
@@ -84,23 +84,14 @@ fn entry_length(basis: &Basis, i: usize, j: usize) -> usize
     basis.lengths[square_place(i, j)]
 }
 
-// The k-th of the numbers other than j.
-fn other(j: usize, k: usize) -> usize
-    requires { k < most_rows }
-    ensures { result ≡ skip j k }
-{
-    if k < j { k } else { k + 1 }
-}
-
 // columns: the columns of a square. j: the number of one of them in that list.
-// The others, in order.
+// The others, in order, and behind them that one.
 fn without(columns: &[usize; ROWS], j: usize) -> [usize; ROWS]
+    requires { j < most_rows }
     ensures { Without j columns.now result }
 {
-    let mut left = [0; ROWS];
-    for k in 0..ROWS - 1 {
-        left[k] = columns[other(j, k)];
-    }
+    let mut left = *columns;
+    left[j..].rotate_left(1);
     left
 }
 
