@@ -5,7 +5,7 @@
 --   table_of_rows            what passes `rows` is a table
 --   part_of_tests            what passes both tests is a part
 --   sifted_of_found          by `covers`, a search in the table is a search among all the primes of the range
-use Rattle.std.specs.Prelude.{◌≡◌, refl, Bool, true, false, List, [], ◌∷◌, ℕ, zero, suc, ◌+◌, ◌-◌, ◌*◌, ◌/◌, ◌%◌, ◌≤◌, ◌<◌, T, eqb, ltb, length, get_or}
+use Rattle.std.specs.Prelude.{◌≡◌, refl, Bool, true, false, ◌&&◌, List, [], ◌∷◌, ℕ, zero, suc, ◌+◌, ◌-◌, ◌*◌, ◌/◌, ◌%◌, ◌≤◌, ◌<◌, T, eqb, ltb, length, get_or}
 use Rattle.std.proofs.Common.{sym, ap, subst, suc-le-suc, le_of_suc-le-suc, not-suc-le-zero, le_trans, mul-le-mul, arith, eqb→eq, ltb→lt}
 use Rattle.std.proofs.Math.Logic.{by_cases}
 use Rattle.std.specs.Int.{◌∣◌}
@@ -16,13 +16,8 @@ use Rattle.divisors.specs.Found.{block, Found, InTable, first}
 use Rattle.divisors.specs.Table.{Table}
 use Rattle.primality.specs.Sifted.{Sifted, divided, prime_odd}
 
--- Both tests pass.
-unfoldable pub both : Bool → Bool → Bool
-both true b = b
-both false b = false
-
-both_parts : (a b : Bool) → T (both a b) → T a × T b
-unfolding both
+-- Where both tests pass, each does.
+both_parts : (a b : Bool) → T (a && b) → T a × T b
 both_parts true b t = (tt, t)
 both_parts false b t = absurd t
 
@@ -31,7 +26,7 @@ unfoldable pub rows : ℕ → List ℕ → List ℕ → Bool
 rows last [] [] = true
 rows last [] (v ∷ vs) = false
 rows last (q ∷ qs) [] = false
-rows last (q ∷ qs) (v ∷ vs) = both (ltb last q) (both (eqb (q * v % 65536) 1) (rows q qs vs))
+rows last (q ∷ qs) (v ∷ vs) = ltb last q && (eqb (q * v % 65536) 1 && rows q qs vs)
 
 -- The odd primes up to 211. A number below 223 · 223 that is not prime has a divisor among them.
 unfoldable pub divisors : List ℕ
@@ -41,21 +36,21 @@ divisors =
 -- The first of the list that divides d is between 1 and d.
 unfoldable pub composite : ℕ → List ℕ → Bool
 composite d [] = false
-composite d (k ∷ ks) = elim (eqb (d % k) 0) [ true ↦ both (ltb 1 k) (ltb k d) | false ↦ composite d ks ]
+composite d (k ∷ ks) = elim (eqb (d % k) 0) [ true ↦ ltb 1 k && ltb k d | false ↦ composite d ks ]
 
 -- n odd numbers from d on are composite.
 unfoldable pub composites : ℕ → ℕ → Bool
 composites zero d = true
-composites (suc n) d = both (composite d divisors) (composites n (d + 2))
+composites (suc n) d = composite d divisors && composites n (d + 2)
 
 -- The odd numbers from d on and below e are composite; e is odd as d is, and not below it.
 unfoldable pub gap : ℕ → ℕ → Bool
-gap d e = both (eqb (d + 2 * ((e - d) / 2)) e) (composites ((e - d) / 2) d)
+gap d e = eqb (d + 2 * ((e - d) / 2)) e && composites ((e - d) / 2) d
 
 -- The odd numbers from d on and below hi that are not in the list are composite.
 unfoldable pub covers : ℕ → ℕ → List ℕ → Bool
 covers hi d [] = gap d hi
-covers hi d (q ∷ qs) = both (gap d q) (covers hi (q + 2) qs)
+covers hi d (q ∷ qs) = gap d q && covers hi (q + 2) qs
 
 -- What `rows` says of each place.
 record Rows (last : ℕ) (q v : List ℕ) : Type 0 where
@@ -106,7 +101,7 @@ unfolding composite
 composite_of d [] t = absurd t
 composite_of d (k ∷ ks) t = go (eqb (d % k) 0) (eqb→eq (d % k) 0) (composite_of d ks) t
   where
-    go : (b : Bool) → (T b → d % k ≡ 0) → (T (composite d ks) → ¬ Prime d) → T (elim b [ true ↦ both (ltb 1 k) (ltb k d) | false ↦ composite d ks ]) → ¬ Prime d
+    go : (b : Bool) → (T b → d % k ≡ 0) → (T (composite d ks) → ¬ Prime d) → T (elim b [ true ↦ ltb 1 k && ltb k d | false ↦ composite d ks ]) → ¬ Prime d
     go true exact rest t = let (lo, hi) = both_parts (ltb 1 k) (ltb k d) t in divided d k (ltb→lt 1 k lo) (ltb→lt k d hi) (exact tt)
     go false exact rest t = rest t
 
