@@ -1,3 +1,4 @@
 pub mod Applies
 pub mod Steps
 pub mod Findings
+pub mod Kept

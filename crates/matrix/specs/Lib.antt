@@ -2,3 +2,4 @@ pub mod Fill
 pub mod Leading
 pub mod Rank
 pub mod Claims
+pub mod Kept

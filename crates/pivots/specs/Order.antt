@@ -1,6 +1,6 @@
 -- The row to take next, as the scan of the rows finds it.
 --   degree_at, is_taken, Small               what the arrays say
---   better                   the test of one row
+--   better, better_taken, better_first, better_lower       the test of one row
 --   Best, best_start, best_more, best_kept, best_next        the lowest of the first rows that were not taken
 use Rattle.std.specs.Prelude.{◌≡◌, ◌≢◌, ◌⊎◌, Bool, not, List, ℕ, ◌+◌, ◌^◌, ◌<◌, T, ℤ, pos, nat_abs, get_or}
 use Rattle.std.proofs.Math.Path.{refl, sym, ap}
@@ -36,6 +36,21 @@ lower_than degree i (Some best) = lt_z (degree i) (degree best)
 
 abbrev pub better : (ℕ → ℤ) → (ℕ → Bool) → ℕ → Option ℕ → Bool
 better degree taken i best = cond (taken i) false (lower_than degree i best)
+
+-- How the code makes the test.
+module _ (degree : ℕ → ℤ) (taken : List Bool) (i : ℕ) where
+  pub better_taken : (best : Option ℕ) → get_or taken i false ≢ false → better degree (is_taken taken) i best ≡ false
+  better_taken best h = ap (λ t. cond t false (lower_than degree i best)) (not_false (get_or taken i false) h)
+    where
+      not_false : (t : Bool) → t ≢ false → t ≡ true
+      not_false true n = refl
+      not_false false n = absurd (n refl)
+
+  pub better_first : get_or taken i false ≡ false → better degree (is_taken taken) i None ≡ true
+  better_first h = ap (λ t. cond t false true) h
+
+  pub better_lower : (best : ℕ) → get_or taken i false ≡ false → better degree (is_taken taken) i (Some best) ≡ lt_z (degree i) (degree best)
+  better_lower best h = ap (λ t. cond t false (lt_z (degree i) (degree best))) h
 
 -- The tests of order.
 le_trans_test : (x y z : ℤ) → le_z x y ≡ true → le_z y z ≡ true → le_z x z ≡ true

@@ -8,3 +8,4 @@ pub mod Given
 pub mod Written
 pub mod Sound
 pub mod Reading
+pub mod Kept

@@ -3,3 +3,4 @@ pub mod Flat
 pub mod Poured
 pub mod Arrays
 pub mod Records
+pub mod Kept

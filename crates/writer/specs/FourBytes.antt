@@ -4,6 +4,6 @@ use Rattle.std.specs.Int.{w32, to_le_bytes}
 use Rattle.std.proofs.Math.Nat.{div-div-eq-div-mul}
 use Rattle.rules.specs.Writer.{bytes}
 
-pub four_bytes : (v : ℕ) → bytes 4 v ≡ to_le_bytes w32 v
+pub four_le_bytes : (v : ℕ) → bytes 4 v ≡ to_le_bytes w32 v
 unfolding bytes
-four_bytes v = simp div-div-eq-div-mul
+four_le_bytes v = simp div-div-eq-div-mul

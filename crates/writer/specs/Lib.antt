@@ -1,3 +1,4 @@
 pub mod Appended
 pub mod FourBytes
 pub mod Decimal
+pub mod Kept
