@@ -3,3 +3,4 @@ pub mod Cut
 pub mod Answer
 pub mod Meant
 pub mod Service
+pub mod Kept
