@@ -14,7 +14,7 @@ pub judge_files_unique : OneResult judge_files_kinds.ps judge_files_kinds.r judg
 judge_files_unique κs a z z' w w' asked h h' = (meant_injective z z' (h ∙ sym h'), refl)
 
 pub judge_prepared_unique : OneResult judge_prepared_kinds.ps judge_prepared_kinds.r judge_prepared.Asked judge_prepared.Learnt
-judge_prepared_unique κs a z z' w w' asked h h' = (prepared_meant_unique z z' (judges_same a.0 a.1.0.now a.1.1.0.now _ _ h h'), refl)
+judge_prepared_unique κs a z z' w w' asked h h' = (prepared_meant_unique z z' (judges_same a.0.now.head a.0.now.f a.1.0.now _ _ h h'), refl)
 
 pub prepared_numbers_unique : OneResult prepared_numbers_kinds.ps prepared_numbers_kinds.r prepared_numbers.Asked prepared_numbers.Learnt
 prepared_numbers_unique κs a z z' w w' asked h h' = (four_of_injective z z' (h ∙ sym h'), refl)

@@ -4,68 +4,62 @@
 
 ghost use Rattle.std.specs.Prelude.{◌≡◌};
 ghost use Rattle.rules.specs.Verdict.{verdict};
-ghost use Rattle.rules.specs.Prepared.{Given, Judges, prepared_numbers, verdict_after};
+ghost use Rattle.rules.specs.Prepared.{Judges, prepared_numbers, verdict_after};
+ghost use Rattle.laws.specs.Valid.{ValidProblem};
 ghost use Rattle.verdict.specs.Meant.{meant, four_of};
-ghost use Rattle.claim.specs.Claims.{problem_of};
-ghost use Rattle.claim.specs.Sound.{SoundColumns};
+ghost use Rattle.claim.specs.Claims.{problem_in};
+ghost use Rattle.claim.specs.Sound.{SoundProblem};
 ghost use Rattle.prepared.specs.Form.{form_of};
 ghost use Rattle.judging.specs.Meaning.{prepared_meant};
 
 use answer_file::read_answer_into;
-use claim::Head;
+use claim::{Problem, no_answer, no_problem};
 use conditions::conditions;
-use layout::{COLUMN_COEFFICIENTS, no_columns, no_entries};
 use prepared::{given, prepare};
 use verdict::{Four, Verdict, numbers};
 
-// What an answer to a prepared problem gets.
-#[derive(Clone, Copy)]
-pub enum PreparedVerdict {
-    // 20: no problem file gives the form
-    NotGiven,
-    // the verdict on the answer
-    Judged(Verdict),
-}
+// 20: no problem file gives the form.
+#[derive(Clone, Copy, Debug, PartialEq, Eq)]
+pub struct NotGiven;
 
-// head, f: a problem whose form some file gives. answer: the answer file.
+// problem: one that was read, or could have been. answer: the answer file.
 // The verdict on the answer.
-fn judge_answer(head: Head, f: &[u32; COLUMN_COEFFICIENTS], answer: &[u8]) -> Verdict
-    requires given { Given (form_of head f.now) }
-    requires sound_columns { SoundColumns head f.now }
-    ensures { meant result ≡ verdict_after (problem_of head f.now) answer.now }
+fn judge_answer(problem: &Problem, answer: &[u8]) -> Verdict
+    requires valid { ValidProblem (problem_in problem.now) }
+    requires sound { SoundProblem problem.now }
+    ensures { meant result ≡ verdict_after (problem_in problem.now) answer.now }
 {
-    let mut entries = no_entries();
-    let a = read_answer_into(answer, head, true, &mut entries);
-    if !a.ok {
-        let refusal = a.refusal;
-        return Verdict::Unread(refusal);
-    }
-    conditions(head, f, &a.lengths, &entries, &a.c)
+    let mut read = no_answer();
+    read_answer_into(answer, &problem.head, true, &mut read)?;
+    conditions(problem, &read)
 }
 
-// head, f: any numbers. answer: the answer file.
+// problem: any numbers. answer: the answer file.
 // 20 if no problem file gives the form, before a byte of the answer is looked at; else the verdict on the answer.
-pub fn judge_prepared(head: Head, f: &[u32; COLUMN_COEFFICIENTS], answer: &[u8]) -> PreparedVerdict
-    ensures { Judges (form_of head f.now) answer.now (prepared_meant result) }
+pub fn judge_prepared(problem: &Problem, answer: &[u8]) -> Result<Verdict, NotGiven>
+    ensures { Judges (form_of problem.now.head problem.now.f) answer.now (prepared_meant result) }
 {
-    if !given(head, f) {
-        return PreparedVerdict::NotGiven;
+    if !given(problem) {
+        return Err(NotGiven);
     }
-    PreparedVerdict::Judged(judge_answer(head, f, answer))
+    // A number read of each array tells the proof how long the array is.
+    let _first = (problem.head.orders[0], problem.head.shifts[0], problem.f[0]);
+    Ok(judge_answer(problem, answer))
 }
 
 // The four numbers of what an answer to a prepared problem gets.
-pub fn prepared_numbers(v: PreparedVerdict) -> Four
+#[tactic(auto, unfolding(rules::specs::Prepared::prepared_numbers))]
+pub fn prepared_numbers(v: Result<Verdict, NotGiven>) -> Four
     ensures { four_of result ≡ prepared_numbers (prepared_meant v) }
 {
     match v {
-        PreparedVerdict::NotGiven => Four {
+        Ok(w) => numbers(w),
+        Err(NotGiven) => Four {
             code: 20,
             file: 0,
             number: 0,
             at: 0,
         },
-        PreparedVerdict::Judged(w) => numbers(w),
     }
 }
 
@@ -74,11 +68,7 @@ pub fn prepared_numbers(v: PreparedVerdict) -> Four
 pub fn judge_files(problem: &[u8], answer: &[u8]) -> Verdict
     ensures { meant result ≡ verdict problem.now answer.now }
 {
-    let mut f = no_columns();
-    let b = prepare(problem, &mut f);
-    if !b.ok {
-        let refusal = b.refusal;
-        return Verdict::Unread(refusal);
-    }
-    judge_answer(b.head, &f, answer)
+    let mut read = no_problem();
+    prepare(problem, &mut read)?;
+    judge_answer(&read, answer)
 }

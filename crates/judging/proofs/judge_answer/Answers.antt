@@ -1,40 +1,32 @@
-use borrow.Author.Rules.{rules}
-use mathlib.Core.Path.{◌≡◌, ◌∙◌}
-use lib.ListN.{length}
-use Rattle.rules.specs.Sizes.{most_rows}
-use Rattle.judging.specs.Steps.{form_head, answer_off_verdict, answer_sound, answer_verdict}
+use Rattle.std.proofs.Common.{◌∙◌}
+use Rattle.claim.specs.Claims.{problem_in}
+use Rattle.verdict.specs.Meant.{meant_unread}
+use Rattle.reader.specs.Readings.{answer_off, answer_read, answer_basis, answer_constants}
+use Rattle.judging.specs.Steps.{answer_off_verdict, answer_verdict}
 use Rattle.judging.proofs.judge_answer.Goals as goal
 
--- The arrays of a `Head` are as long as their types say.
-pub read_answer_into-a-requires : goal.read_answer_into-a-requires
-unfolding most_rows
-read_answer_into-a-requires c =
-    let a = c.args in
-    let long_orders : length a.head.orders ≡ most_rows = search rules in
-    let long_shifts : length a.head.shifts ≡ most_rows = search rules in
-    let sound = form_head a.head a.f.now a.answer.now c.requires.given long_orders long_shifts in
-    record { m_le_most_rows = (sound.rows_most, sound.columns_most); entries_value = c.no_entries-entries.ensures }
-
-pub returns-then-not-a : goal.returns-then-not-a
-returns-then-not-a c =
-    let y = c.read_answer_into-a in
-    answer_off_verdict c.args.head c.args.f.now c.args.answer.now c.requires.given y.ensures
-    c.if-not-a.true
+pub returns-in_err-read_answer_into : goal.returns-in_err-read_answer_into
+returns-in_err-read_answer_into c =
+    let b = c.args.problem.now in
+    let t = c.args.answer.now in
+    meant_unread _ c.from_residual.ensures.1
+    ∙ answer_off_verdict (problem_in b) t (answer_off b c.requires.valid t c.in_err-read_answer_into.ensures)
 
 -- Where the answer is not refused, it is read.
 pub conditions-requires : goal.conditions-requires
-unfolding most_rows
 conditions-requires c =
-    let a = c.args in
-    let y = c.read_answer_into-a in
-    let long_orders : length a.head.orders ≡ most_rows = search rules in
-    let long_shifts : length a.head.shifts ≡ most_rows = search rules in
-    answer_sound a.head a.f.now a.answer.now c.requires.given y.ensures
-    c.if-not-a.false long_orders long_shifts c.requires.sound_columns
+    let b = c.args.problem.now in
+    let t = c.args.answer.now in
+    let read = c.in_ok-read_answer_into.ensures in
+    record {
+      sound_head = c.requires.sound.sound_head;
+      sound_columns = c.requires.sound.sound_columns;
+      sound_basis = answer_basis b c.requires.valid t read;
+      C_below = answer_constants b c.requires.valid t read;
+    }
 
 pub returns : goal.returns
 returns c =
-    let a = c.args in
-    let y = c.read_answer_into-a in
-    c.conditions.ensures
-    ∙ answer_verdict a.head a.f.now a.answer.now c.requires.given y.ensures c.if-not-a.false
+    let b = c.args.problem.now in
+    let t = c.args.answer.now in
+    c.conditions.ensures ∙ answer_verdict (problem_in b) t (answer_read b c.requires.valid t c.in_ok-read_answer_into.ensures)

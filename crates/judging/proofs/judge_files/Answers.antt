@@ -1,26 +1,24 @@
-use borrow.Author.Tests.{not-true, not-false}
-use mathlib.Core.Path.{◌∙◌}
-use Rattle.reader.specs.Readings.{problem_columns}
-use Rattle.judging.specs.Steps.{off_verdict, on_verdict}
+use Rattle.std.proofs.Common.{sym, ◌∙◌}
+use Rattle.laws.specs.PreparedLaws.{verdict_after_problem}
+use Rattle.laws.specs.Ranges.{problem_valid}
+use Rattle.verdict.specs.Meant.{meant_unread}
+use Rattle.reader.specs.Readings.{problem_off, problem_read, problem_sound}
+use Rattle.judging.specs.Steps.{off_verdict}
 use Rattle.judging.proofs.judge_files.Goals as goal
 
-pub returns-then-not-b : goal.returns-then-not-b
-returns-then-not-b c =
-    let x = c.prepare-b in
-    let a = c.args in
-    off_verdict a.problem.now a.answer.now x.ensures.f_after (not-true x.result.ok c.if-not-b.true)
+pub returns-in_err-prepare : goal.returns-in_err-prepare
+returns-in_err-prepare c =
+    let s = c.args.problem.now in
+    meant_unread _ c.from_residual.ensures.1 ∙ off_verdict s c.args.answer.now (problem_off s c.in_err-prepare.ensures.form_after)
 
--- Past the branch the problem was read, so that its file gives its form.
+-- Past the `?` the problem was read.
 pub judge_answer-requires : goal.judge_answer-requires
 judge_answer-requires c =
     let s = c.args.problem.now in
-    let x = c.prepare-b in
-    let on = not-false x.result.ok c.if-not-b.false in
-    record { given = (s, x.ensures.gives on); sound_columns = problem_columns s x.ensures.f_after on }
+    let read = c.in_ok-prepare.ensures.form_after in
+    record { valid = problem_valid s (problem_read s read); sound = problem_sound s read }
 
 pub returns : goal.returns
 returns c =
-    let a = c.args in
-    let x = c.prepare-b in
-    c.judge_answer.ensures
-    ∙ on_verdict a.problem.now a.answer.now x.result.head x.new.f (x.ensures.gives (not-false x.result.ok c.if-not-b.false))
+    let s = c.args.problem.now in
+    c.judge_answer.ensures ∙ sym (verdict_after_problem s c.args.answer.now (problem_read s c.in_ok-prepare.ensures.form_after))

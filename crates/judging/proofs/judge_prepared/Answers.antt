@@ -1,30 +1,25 @@
-use borrow.Author.Rules.{rules}
-use mathlib.Core.Path.{◌≡◌, ◌∙◌}
-use lib.ListN.{length}
+use Rattle.std.proofs.Common.{rules, ◌≡◌, ◌∙◌, length}
 use Rattle.rules.specs.Sizes.{most_rows, most_order}
 use Rattle.layout.specs.Flat.{column_coefficients}
-use Rattle.judging.specs.Steps.{form_columns, on_verdict}
+use Rattle.judging.specs.Steps.{form_head, form_columns, form_valid, on_verdict}
 use Rattle.judging.proofs.judge_prepared.Goals as goal
 
--- The array is as long as its type says.
-pub given-requires : goal.given-requires
-unfolding most_rows most_order
-given-requires c = search rules
-
-pub returns-then-not-given : goal.returns-then-not-given
-returns-then-not-given c = c.given.ensures.fails c.if-not-given.true
-
--- Where the test is passed, a file gives the form.
+-- Where the test is passed, a file gives the form. The arrays are as long as their types say.
 pub judge_answer-requires : goal.judge_answer-requires
 unfolding most_rows most_order
 judge_answer-requires c =
-    let a = c.args in
+    let b = c.args.problem.now in
     let file = c.given.ensures.holds c.if-not-given.false in
-    let long : length a.f.now ≡ column_coefficients = search rules in
-    record { given = file; sound_columns = form_columns a.head a.f.now a.answer.now file long }
+    let long_orders : length b.head.orders ≡ most_rows = search rules in
+    let long_shifts : length b.head.shifts ≡ most_rows = search rules in
+    let long : length b.f ≡ column_coefficients = search rules in
+    record {
+      valid = form_valid b.head b.f file;
+      sound = record { sound_head = form_head b.head b.f file long_orders long_shifts; sound_columns = form_columns b.head b.f file long };
+    }
 
 pub returns : goal.returns
 returns c =
-    let a = c.args in
+    let b = c.args.problem.now in
     let (s, g) = c.given.ensures.holds c.if-not-given.false in
-    (s, g, c.judge_answer.ensures ∙ on_verdict s a.answer.now a.head a.f.now g)
+    (s, g, c.judge_answer.ensures ∙ on_verdict s c.args.answer.now b.head b.f g)
