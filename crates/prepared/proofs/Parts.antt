@@ -3,15 +3,20 @@
 --   parts_given              the first n numbers of an array, and the others
 --   below_part               the numbers from one place to another
 --   row_part, column_part    an entry of a column, and a column of F
-use Rattle.std.proofs.Common.{◌≡◌, ℕ, List, Bool, true, false, length, take, drop, get_or, ◌+◌, ◌-◌, ◌*◌, ◌<◌, ◌≤◌, ◌∙◌, sym, ap, subst, arith, lt-ltb, le-ltb, length-drop, ltb}
+--   all_given                each number below n, by the library's `all`
+use Rattle.std.proofs.Common.{◌≡◌, ℕ, List, Bool, true, false, length, take, drop, get_or, ◌+◌, ◌-◌, ◌*◌, ◌<◌, ◌≤◌, ◌∙◌, sym, ap, subst, arith, lt-ltb, le-ltb, length-drop, ltb, zero-add}
 use Rattle.std.specs.Prelude.{◌↔◌}
 use Rattle.std.proofs.lemmas.Bool.{false≢true}
 use Rattle.std.proofs.Math.Logic.{by_cases}
 use Rattle.std.proofs.Math.Decide.{dec_lt}
+use Rattle.std.proofs.lemmas.List.FromFn.{length-range_with_len, get_or-range_with_len}
+use Rattle.std.specs.Bool.{MatchBool}
+use Rattle.std.specs.List.{range_with_len, AllWithin, HoldsAt}
 use Rattle.std.proofs.lemmas.List.{get_or-take, get_or-drop, length-take}
 use Rattle.rules.specs.Sizes.{most_rows, most_order}
 use Rattle.layout.specs.Flat.{column_place}
 use Rattle.layout.specs.Settles.{Settles}
+use Rattle.prepared.specs.Settling.{settled_yes, settled_no}
 use Rattle.prepared.specs.Canonical.{Below, Row, Column}
 
 pub get_or_part : {A : Type 0} (from n : ℕ) (xs : List A) (d : A) (i : ℕ) → i < n → get_or (take n (drop from xs)) i d ≡ get_or xs (from + i) d
@@ -81,3 +86,14 @@ column_part p m d j from n f rows small here long = (
     no_more = (below_part from n 1 f (omega arith) (omega arith) (omega arith)).1 h.no_more;
   },
 )
+
+-- What `all` finds in the numbers below n.
+pub all_given : (n : ℕ) (Given : ℕ → Type 0) (r : Bool)
+    → MatchBool r (AllWithin (λ x. x < n → Given x) (range_with_len 0 n) 0 (length (range_with_len 0 n)))
+    ((k : ℕ) × (k < length (range_with_len 0 n)) × HoldsAt (λ x. x < n → ¬ Given x) (range_with_len 0 n) k)
+    → Settles ((i : ℕ) → i < n → Given i) r
+all_given n Given true h =
+    settled_yes (λ i b. (rw (get_or-range_with_len 0 n i 0 b ∙ zero-add i) at (h i 0 (omega arith) (omega (arith, length-range_with_len 0 n)))) b)
+all_given n Given false (k, b, h) =
+    let within : k < n = omega (arith, length-range_with_len 0 n) in
+    settled_no (λ all. (rw (get_or-range_with_len 0 n k 0 within ∙ zero-add k) at (h 0)) within (all k within))

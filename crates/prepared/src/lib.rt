@@ -117,12 +117,7 @@ fn rows_given(column: &[u32], m: usize, d: usize, p: u32) -> bool
     requires column_len { length column.now ≡ most_rows * most_order }
     ensures { Settles (Rows p m d column.now 0) result }
 {
-    for i in 0..m {
-        if !row_given(&column[i * ORDER..(i + 1) * ORDER], d, p) {
-            return false;
-        }
-    }
-    true
+    (0..m).all(|i| row_given(&column[i * ORDER..(i + 1) * ORDER], d, p))
 }
 
 // column: the coefficients of a column of F. m: the rows. d: the column's order. p: any number.
@@ -142,14 +137,13 @@ fn columns_given(problem: &Problem) -> bool
     requires orders { Orders problem.now.head.n problem.now.head.orders }
     ensures { Settles (Columns problem.now.head.p problem.now.head.m problem.now.head.n problem.now.head.orders problem.now.f) result }
 {
-    let head = &problem.head;
-    for j in 0..head.n {
-        let column = &problem.f[j * COLUMN..(j + 1) * COLUMN];
-        if !column_given(column, head.m, head.orders[j], head.p) {
-            return false;
-        }
-    }
-    zeros(&problem.f[head.n * COLUMN..])
+    let (head, f) = (&problem.head, &problem.f);
+    (0..head.n).all(|j| column_given(
+        &f[j * COLUMN..(j + 1) * COLUMN],
+        head.m,
+        head.orders[j],
+        head.p,
+    )) && zeros(&f[head.n * COLUMN..])
 }
 
 // problem: the problem file, of any bytes. form: the coefficients of F all 0; where the problem goes, in its prepared form. Every number is 0 where
