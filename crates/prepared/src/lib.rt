@@ -138,12 +138,10 @@ fn columns_given(problem: &Problem) -> bool
     ensures { Settles (Columns problem.now.head.p problem.now.head.m problem.now.head.n problem.now.head.orders problem.now.f) result }
 {
     let (head, f) = (&problem.head, &problem.f);
-    (0..head.n).all(|j| column_given(
-        &f[j * COLUMN..(j + 1) * COLUMN],
-        head.m,
-        head.orders[j],
-        head.p,
-    )) && zeros(&f[head.n * COLUMN..])
+    (0..head.n).all(|j| {
+        let column = &f[j * COLUMN..(j + 1) * COLUMN];
+        column_given(column, head.m, head.orders[j], head.p)
+    }) && zeros(&f[head.n * COLUMN..])
 }
 
 // problem: the problem file, of any bytes. form: the coefficients of F all 0; where the problem goes, in its prepared form. Every number is 0 where
