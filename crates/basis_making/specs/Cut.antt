@@ -2,8 +2,8 @@
 --   cut_orders, cut_number, cut_columns, cut_head, cut_arrays    its orders, the coefficients of F, the numbers beside F, and all
 --   Cutting, cutting_all     lists that are changed number by number
 --   largest_is               the largest order
---   cut_sound                what the code asks of them
---   cut_means                the problem that they stand for
+--   cut_sound                what the code asks of them: cut_head_sound, cut_columns_sound
+--   cut_means                the problem that they stand for: cut_is
 --   done_is                  the steps done
 use Rattle.std.specs.Prelude.{◌≡◌, refl, Bool, ltb, length, take}
 use Rattle.std.proofs.Common.{sym, ◌∙◌, le_of_suc-le-suc, zero-lt-suc, arith, lt-ltb, le-ltb}
@@ -122,7 +122,7 @@ module _ (head : Head) (f : List ℕ) (done : ℕ) (sound_head : SoundHead head)
   unfolding cut_orders
   cut_order_at j hj = get_or_table most_rows (λ j. min (get_or head.orders j 0) done) 0 j hj
 
-  cut_head_sound : SoundHead (cut_head head done)
+  pub cut_head_sound : SoundHead (cut_head head done)
   unfolding cut_orders
   cut_head_sound = record {
     prime = sound_head.prime;
@@ -144,7 +144,7 @@ module _ (head : Head) (f : List ℕ) (done : ℕ) (sound_head : SoundHead head)
       either true x h = h
       either false x h = le_of_lt sound_head.prime.two_le
 
-  cut_columns_sound : SoundColumns (cut_head head done) (cut_columns f done)
+  pub cut_columns_sound : SoundColumns (cut_head head done) (cut_columns f done)
   cut_columns_sound = record { F_below = cut_below; F_ends = λ i j k hi hj h. ends i j k (inside_rows hi) (inside_columns hj) hi hj h }
     where
       inside_rows : {i : ℕ} → i < head.m → i < most_rows
@@ -160,7 +160,7 @@ module _ (head : Head) (f : List ℕ) (done : ℕ) (sound_head : SoundHead head)
           (λ nl. ap (λ t. cond t (column_cell f i j k) 0) (le-ltb k done (omega arith)))
 
   -- The problem that the cut arrays stand for.
-  cut_is : problem_of (cut_head head done) (cut_columns f done) ≡ cut_problem (problem_of head f) done
+  pub cut_is : problem_of (cut_head head done) (cut_columns f done) ≡ cut_problem (problem_of head f) done
   unfolding cut_problem orders_of columns_of
   cut_is = ap₂ (λ (o : List ℕ) (c : List (List (List ℕ))). record { p = head.p; m = head.m; n = head.n; orders = o; shifts = (problem_of head f).shifts; F = c }) orders_are columns_are
     where

@@ -81,7 +81,10 @@ fn write_bytes(to: &mut impl Write, head: &[u8], bytes: &[u8]) -> io::Result<()>
 
 // The line that `judge` prints.
 fn write_verdict(to: &mut impl Write, problem: &[u8], answer: &[u8]) -> io::Result<()> {
-    write_line(to, |out| line(numbers(judging::judge_files(problem, answer)), out))
+    write_line(
+        to,
+        |out| line(numbers(judging::judge_files(problem, answer)), out),
+    )
 }
 
 // The line for the part that the verdict points at.
@@ -136,7 +139,11 @@ fn number(from: &mut impl Read, most: usize) -> Result<usize, Stop>
     let mut bytes = [0; 4];
     fill(from, &mut bytes)?;
     let n = u32::from_le_bytes(bytes) as usize;
-    if n > most { Err(Stop::BadBundle) } else { Ok(n) }
+    if n > most {
+        Err(Stop::BadBundle)
+    } else {
+        Ok(n)
+    }
 }
 
 // Runs the next case, for whose files there is room.
