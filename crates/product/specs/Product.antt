@@ -3,10 +3,15 @@
 --   product_number           the sum of products whose residue such a coefficient is
 --   dot entries f x y n      Σ_{s<n} entries[x + s] · f[y − s]
 --   Factors p entries lengths f    what the modulus and the two factors are
---   pair_dot                 which of the products count
+--   convolved, entry_part, column_part     the same sum for the coefficients of an entry of P and of one of F: pair_convolved
+--   convolved_dot            which of the products count
 --   product_residue          the residue of the sum of products is the coefficient
 use Rattle.std.specs.Prelude.{◌≡◌, List, ℕ, suc, ◌+◌, ◌-◌, ◌*◌, ◌^◌, ◌≤◌, ◌<◌, min, pos, get_or}
-use Rattle.std.proofs.Common.{sym, ap, ap₂, ◌∙◌, add_assoc, mul-zero, zero-mul, arith}
+use Rattle.std.proofs.Common.{sym, ap, ap₂, ◌∙◌, add_assoc, mul-zero, zero-mul, zero-add, lt_of_lt_of_le, subst, take, drop, length, arith}
+use Rattle.std.proofs.Math.Logic.{by_cases}
+use Rattle.std.proofs.Math.Decide.{dec_lt}
+use Rattle.std.proofs.Math.ListN.{get_or-eq_default}
+use Rattle.std.proofs.lemmas.List.{length-take, get_or-take, get_or-drop}
 use Rattle.algebra.specs.Residue.{K, Residue, red, red_mul}
 use Rattle.algebra.specs.Sum.{sum_cong}
 use Rattle.algebra.specs.Series.{convolve, convolve_sum}
@@ -33,6 +38,17 @@ product_number entries f m i j k = sum_below m (pair_number entries f i j k)
 
 unfoldable pub dot : List ℕ → List ℕ → ℕ → ℕ → ℕ → ℕ
 dot entries f x y n = sum_below n (λ s. get_or entries (x + s) 0 * get_or f (y - s) 0)
+
+-- The coefficient at power k of the product of two polynomials.
+unfoldable pub convolved : List ℕ → List ℕ → ℕ → ℕ
+convolved p f k = sum_below (suc k) (λ t. get_or p t 0 * get_or f (k - t) 0)
+
+-- The coefficients of an entry of P, and of one of F.
+abbrev pub entry_part : (entries lengths : List ℕ) → ℕ → ℕ → List ℕ
+entry_part entries lengths i j = take (length_at lengths i j) (drop (entry_place i j 0) entries)
+
+abbrev pub column_part : List ℕ → ℕ → ℕ → List ℕ
+column_part f i j = take most_order (drop (column_place i j 0) f)
 
 -- The first power of an entry of P that has a partner in F for the power k, and how many there are.
 unfoldable pub first_power : ℕ → ℕ
@@ -76,50 +92,63 @@ first_past : (k t : ℕ) → t < first_power k → most_order ≤ k - t
 unfolding first_power most_order
 first_past k t h = omega arith
 
-order_within : (k s : ℕ) → k - (first_power k + s) < most_order
-unfolding first_power most_order
-order_within k s = omega arith
-
 entry_place_add : (i j k s : ℕ) → entry_place i j (k + s) ≡ entry_place i j k + s
 unfolding entry_place
 entry_place_add i j k s = sym (add_assoc (square_place i j * most_length) k s)
 
-column_place_sub : (i j k d s : ℕ) → d + s ≤ k → column_place i j (k - (d + s)) ≡ column_place i j (k - d) - s
+column_place_add : (i j t : ℕ) → column_place i j 0 + t ≡ column_place i j t
 unfolding column_place
-column_place_sub i j k d s h = omega arith
+column_place_add i j t = omega arith
 
 -- The powers that count are those of the entry that go with a coefficient of F.
-pub pair_dot : (entries lengths f : List ℕ) → Padded most_rows entries lengths → (i j k l : ℕ) → i < most_rows → l < most_rows → k ≤ most_order
-    → pair_number entries f i j k l
-    ≡ dot entries f (entry_place i l (first_power k)) (column_place l j (k - first_power k)) (powers (length_at lengths i l) k)
-unfolding pair_number dot
-pair_dot entries lengths f padded i j k l hi hl hk =
-    sum_window (suc k) first count (λ t. cell entries i l t * column_cell f l j (k - t)) (powers_end n k)
-    (λ t b. ap (λ x. cell entries i l t * x) (column_cell_past f l j (k - t) (first_past k t b)) ∙ mul-zero (cell entries i l t))
-    (λ t b h. ap (λ x. x * column_cell f l j (k - t)) (padded.past_length i l t hi hl (powers_past n k t b h)) ∙ zero-mul (column_cell f l j (k - t)))
-    ∙ sum_below_cong count (λ s. cell entries i l (first + s) * column_cell f l j (k - (first + s)))
-    (λ s. get_or entries (entry_place i l first + s) 0 * get_or f (column_place l j (k - first) - s) 0)
-    (λ s b. ap₂ ◌*◌
-    (cell_at entries i l (first + s) (within_length s b) ∙ ap (λ x. get_or entries x 0) (entry_place_add i l first s))
-    (column_cell_at f l j (k - (first + s)) (within_order s) ∙ ap (λ x. get_or f x 0) (column_place_sub l j k first s (within_power s b))))
+pub convolved_dot : (p f : List ℕ) (k : ℕ) → length f ≡ most_order
+    → convolved p f k ≡ dot p f (first_power k) (k - first_power k) (powers (length p) k)
+unfolding convolved dot
+convolved_dot p f k long =
+    sum_window (suc k) (first_power k) (powers (length p) k) (λ t. get_or p t 0 * get_or f (k - t) 0) (powers_end (length p) k)
+    (λ t b. ap (λ x. get_or p t 0 * x) (get_or-eq_default f 0 (omega (arith, first_past k t b))) ∙ mul-zero (get_or p t 0))
+    (λ t b h. ap (λ x. x * get_or f (k - t) 0) (get_or-eq_default p 0 (powers_past (length p) k t b h)) ∙ zero-mul (get_or f (k - t) 0))
+    ∙ sum_below_cong (powers (length p) k) (λ s. get_or p (first_power k + s) 0 * get_or f (k - (first_power k + s)) 0)
+    (λ s. get_or p (first_power k + s) 0 * get_or f (k - first_power k - s) 0)
+    (λ s b. ap (λ x. get_or p (first_power k + s) 0 * get_or f x 0) (omega arith))
+
+-- An entry of P and one of F hold the coefficients at their places, and zeros stand behind.
+entry_at : (entries lengths : List ℕ) → Padded most_rows entries lengths → (i j t : ℕ) → i < most_rows → j < most_rows
+    → get_or (entry_part entries lengths i j) t 0 ≡ cell entries i j t
+entry_at entries lengths padded i j t hi hj = by_cases (dec_lt t n)
+    (λ h. get_or-take n (drop (entry_place i j 0) entries) t 0 h
+    ∙ get_or-drop (entry_place i j 0) entries t 0
+    ∙ ap (λ x. get_or entries x 0) (sym (entry_place_add i j 0 t) ∙ ap (entry_place i j) (zero-add t))
+    ∙ sym (cell_at entries i j t (lt_of_lt_of_le h (padded.length_most (square_place i j)))))
+    (λ h. get_or-eq_default (entry_part entries lengths i j) 0 (omega (arith, length-take n (drop (entry_place i j 0) entries)))
+    ∙ sym (padded.past_length i j t hi hj (omega arith)))
   where
     n : ℕ
-    n = length_at lengths i l
+    n = length_at lengths i j
 
-    first : ℕ
-    first = first_power k
+column_at : (f : List ℕ) (i j t : ℕ) → get_or (column_part f i j) t 0 ≡ column_cell f i j t
+column_at f i j t = by_cases (dec_lt t most_order)
+    (λ h. get_or-take most_order (drop (column_place i j 0) f) t 0 h
+    ∙ get_or-drop (column_place i j 0) f t 0
+    ∙ ap (λ x. get_or f x 0) (column_place_add i j t)
+    ∙ sym (column_cell_at f i j t h))
+    (λ h. get_or-eq_default (column_part f i j) 0 (omega (arith, length-take most_order (drop (column_place i j 0) f)))
+    ∙ sym (column_cell_past f i j t (omega arith)))
 
-    count : ℕ
-    count = powers n k
+-- What is so of each number of a list is so of those of a part.
+pub each_part : (b : ℕ) (l : List ℕ) (n x : ℕ) → Each b l → Each b (take n (drop x l))
+each_part b l n x h i = by_cases (dec_lt i n)
+    (λ d. subst (λ y. y < b) (sym (get_or-take n (drop x l) i 0 d ∙ get_or-drop x l i 0)) (h (x + i)))
+    (λ d. subst (λ y. y < b) (sym (get_or-eq_default (take n (drop x l)) 0 (omega (arith, length-take n (drop x l))))) (omega (arith, h 0)))
 
-    within_length : (s : ℕ) → s < count → first + s < most_length
-    within_length s b = omega (arith, powers_length n k (padded.length_most (square_place i l)) hk)
-
-    within_power : (s : ℕ) → s < count → first + s ≤ k
-    within_power s b = omega (arith, powers_end n k)
-
-    within_order : (s : ℕ) → k - (first + s) < most_order
-    within_order s = order_within k s
+-- So the products of the two are those that count.
+pub pair_convolved : (entries lengths f : List ℕ) → Padded most_rows entries lengths → (i j k l : ℕ) → i < most_rows → l < most_rows
+    → pair_number entries f i j k l ≡ convolved (entry_part entries lengths i l) (column_part f l j) k
+unfolding pair_number convolved
+pair_convolved entries lengths f padded i j k l hi hl =
+    sum_below_cong (suc k) (λ t. cell entries i l t * column_cell f l j (k - t))
+    (λ t. get_or (entry_part entries lengths i l) t 0 * get_or (column_part f l j) (k - t) 0)
+    (λ t b. ap₂ ◌*◌ (sym (entry_at entries lengths padded i l t hi hl)) (sym (column_at f l j (k - t))))
 
 -- The residue of the sum of products is the coefficient.
 pub product_residue : (p : ℕ) (entries f : List ℕ) (m i j k : ℕ) → red p (product_number entries f m i j k) ≡ flat_product p entries f m i j k

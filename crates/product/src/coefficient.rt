@@ -2,9 +2,9 @@
 ghost use Rattle.std.specs.Prelude.{◌≡◌, ◌+◌, ◌*◌, ◌-◌, ◌%◌, ◌^◌, ◌<◌, ◌≤◌, length};
 ghost use Rattle.rules.specs.Sizes.{most_rows, most_order, most_length};
 ghost use Rattle.field.specs.Modulus.{cut, modulus_of, Made};
-ghost use Rattle.layout.specs.Holds.{Each, Padded};
+ghost use Rattle.layout.specs.Holds.{Each, Padded, Short};
 ghost use Rattle.product.specs.Total.{Grown, Within, Summed};
-ghost use Rattle.product.specs.Product.{Factors, dot, first_power, powers, pair_number, product_number, flat_product};
+ghost use Rattle.product.specs.Product.{Factors, dot, first_power, convolved, entry_part, column_part, product_number, flat_product};
 
 use claim::{Basis, Problem};
 use field::{CUT, Modulus};
@@ -45,42 +45,46 @@ fn first_power(k: usize) -> usize
     (k + 1).saturating_sub(ORDER)
 }
 
-// length: of an entry of P. k: a power, at most the largest order.
-// How many powers of the entry go with a coefficient of F to the power k.
-#[tactic(auto, unfolding(rules::specs::Sizes::most_order, rules::specs::Sizes::most_length, crate::specs::Product::first_power, crate::specs::Product::powers))]
-fn powers(length: usize, k: usize) -> usize
-    requires { (length ≤ most_length) × (k ≤ most_order) }
-    ensures { result ≡ powers length k }
-{
-    length.min(k + 1).saturating_sub(first_power(k))
-}
-
-// total: a sum. problem, basis: of a claim. i, l, j: a row of P, its column and so the row of F, and a column of F. k: a power.
-// The sum with the products added that the entries of P and F there give to the power k.
-#[tactic(auto, unfolding(rules::specs::Sizes::most_rows, rules::specs::Sizes::most_order, rules::specs::Sizes::most_length, layout::specs::Flat::square_place, layout::specs::Flat::entry_place, layout::specs::Flat::column_place, crate::specs::Product::first_power, crate::specs::Product::powers))]
-fn add_entry(
-    total: Total,
-    problem: &Problem,
-    basis: &Basis,
-    i: usize,
-    l: usize,
-    j: usize,
-    k: usize,
-) -> Total
-    requires each { Each (2 ^ 31) basis.now.entries × (Each (2 ^ 31) problem.now.f × Padded most_rows basis.now.entries basis.now.lengths) }
+// total: a sum. p: the coefficients of an entry of P. f: those of one of F. k: a power, at most the largest order.
+// The sum with the products added that the two entries give to the power k.
+#[tactic(auto, unfolding(rules::specs::Sizes::most_order, rules::specs::Sizes::most_length, crate::specs::Product::first_power))]
+fn add_pair(total: Total, p: &[u32], f: &[u32], k: usize) -> Total
+    requires each { Each (2 ^ 31) p.now × Each (2 ^ 31) f.now }
     requires within { Within (2 ^ 10) total.high total.low }
-    requires i_lt_most_rows { (i < most_rows) × ((l < most_rows) × ((j < most_rows) × (k ≤ most_order))) }
-    ensures { Grown most_length total.high total.low (pair_number basis.now.entries problem.now.f i j k l) result.high result.low }
+    requires lengths { (length p.now ≤ most_length) × ((length f.now ≡ most_order) × (k ≤ most_order)) }
+    ensures { Grown most_length total.high total.low (convolved p.now f.now k) result.high result.low }
 {
     let first = first_power(k);
-    let count = powers(basis.lengths[square_place(i, l)], k);
-    let x = entry_place(i, l, first);
-    let y = column_place(l, j, k - first);
-    add_products(
-        total,
-        &basis.entries[x..x + count],
-        &problem.f[y + 1 - count..y + 1],
-    )
+    let end = p.len().min(k + 1);
+    if end <= first {
+        return total; // no coefficient goes with another
+    }
+    add_products(total, &p[first..end], &f[k + 1 - end..k + 1 - first])
+}
+
+// basis: P. i, j: a row and a column.
+// The coefficients of its entry there.
+#[tactic(auto, unfolding(rules::specs::Sizes::most_rows, rules::specs::Sizes::most_length, layout::specs::Flat::square_place, layout::specs::Flat::entry_place))]
+fn entry(basis: &Basis, i: usize, j: usize) -> &[u32]
+    requires short { Short basis.now.lengths }
+    requires within { (i < most_rows) × (j < most_rows) }
+    ensures value { result.now ≡ entry_part basis.now.entries basis.now.lengths i j }
+    ensures short { length result.now ≤ most_length }
+{
+    let start = entry_place(i, j, 0);
+    &basis.entries[start..start + basis.lengths[square_place(i, j)]]
+}
+
+// problem: of a claim. i, j: a row and a column.
+// The coefficients of F's entry there, zeros where it has fewer than the largest order.
+#[tactic(auto, unfolding(rules::specs::Sizes::most_rows, rules::specs::Sizes::most_order, layout::specs::Flat::column_place))]
+fn column(problem: &Problem, i: usize, j: usize) -> &[u32]
+    requires { (i < most_rows) × (j < most_rows) }
+    ensures value { result.now ≡ column_part problem.now.f i j }
+    ensures long { length result.now ≡ most_order }
+{
+    let start = column_place(i, j, 0);
+    &problem.f[start..start + ORDER]
 }
 
 // problem, basis: of a claim. i, j: a row and a column. k: a power, at most the largest order.
@@ -92,7 +96,7 @@ fn entry_total(problem: &Problem, basis: &Basis, i: usize, j: usize, k: usize) -
 {
     let mut total = Total { high: 0, low: 0 };
     for l in 0..problem.head.m {
-        total = add_entry(total, problem, basis, i, l, j, k);
+        total = add_pair(total, entry(basis, i, l), column(problem, l, j), k);
     }
     total
 }
