@@ -6,10 +6,11 @@ ghost use Rattle.rules.specs.Evidence.{make_evidence};
 ghost use Rattle.verdict.specs.Replies.{reply_meant};
 
 use answer_file::read_answer_into;
+use claim::{no_answer, no_problem};
 use evidence::put_evidence;
-use layout::{RECORD, no_columns, no_entries};
+use layout::RECORD;
 use prepared::prepare;
-use verdict::Reply;
+use verdict::{Reply, Unwritten};
 use writer::put_text;
 
 // problem, answer: the two files. buffer: where the record goes.
@@ -18,26 +19,16 @@ pub fn evidence_files(problem: &[u8], answer: &[u8], buffer: &mut [u8]) -> Reply
     ensures result_value { reply_meant result ≡ (make_evidence problem.now answer.now buffer.old).answer }
     ensures buffer_after { buffer.new ≡ (make_evidence problem.now answer.now buffer.old).buffer }
 {
-    let mut f = no_columns();
-    let b = prepare(problem, &mut f);
-    if !b.ok {
-        let refusal = b.refusal;
-        return Reply::Unread(refusal);
-    }
-    let head = b.head;
-    let mut entries = no_entries();
-    let a = read_answer_into(answer, head, false, &mut entries);
-    if !a.ok {
-        let refusal = a.refusal;
-        return Reply::Unread(refusal);
-    }
+    let mut read = no_problem();
+    prepare(problem, &mut read)?;
+    let mut given = no_answer();
+    read_answer_into(answer, &read.head, false, &mut given)?;
     let mut record = [0u8; RECORD];
-    let needed = put_evidence(&mut record, head, &f, &a.lengths, &entries);
-    let count = if buffer.len() < needed { 0 } else { needed };
-    put_text(buffer, 0, &record[..count]);
-    let at = needed as u32;
-    if count < needed {
-        return Reply::NoRoom(at);
+    let needed = put_evidence(&mut record, &read, &given.basis);
+    let bytes = needed as u32;
+    if buffer.len() < needed {
+        return Err(Unwritten::NoRoom(bytes));
     }
-    Reply::Written(at)
+    put_text(buffer, 0, &record[..needed]);
+    Ok(bytes)
 }

@@ -1,106 +1,60 @@
--- Past the first branch the problem was read, past the second the answer.
-use borrow.Author.Tests.{not-true, not-false}
-use mathlib.Core.List.{List}
-use mathlib.Core.Path.{sym, ap}
-use Prim.Native.Nat.{ℕ, ◌≤◌, zero-le}
-use native.Mathlib.Omega.{arith}
-use lib.ListN.{length, length-take}
+use Rattle.std.proofs.Common.{◌≡◌, refl, sym, ap, ◌∙◌, arith, List, ℕ}
 use Rattle.rules.specs.Sizes.{most_rows}
-use Rattle.rules.specs.Reply.{Made}
+use Rattle.rules.specs.Reply.{Made, Reply}
+use Rattle.laws.specs.Ranges.{problem_valid}
 use Rattle.laws.specs.WriterLaws.{rectangle_most}
-use Rattle.claim.specs.Sound.{SoundHead}
-use Rattle.reader.specs.Readings.{problem_head, problem_columns}
-use Rattle.writer.specs.Appended.{Appended, appended_within}
-use Rattle.making.specs.Steps.{evidence_off, evidence_answer_off, both_basis, room_lacks, evidence_put}
+use Rattle.verdict.specs.Replies.{reply_meant_unread}
+use Rattle.reader.specs.Readings.{problem_off, problem_read, problem_head, problem_sound, basis_off, basis_read, basis_sound}
+use Rattle.making.specs.Steps.{evidence_off, evidence_answer_off, room_lacks, evidence_put}
 use Rattle.making.proofs.evidence_files.Goals as goal
-use Rattle.making.proofs.evidence_files.Goals.{then-buffer-needed, else-buffer-needed}
 
-pub returns-then-not-b : goal.returns-then-not-b
-returns-then-not-b c =
-    let x = c.prepare-b in
+-- What is made says what is answered, and what is left in the buffer.
+settled : {made : Made} {given answer : Reply} {buffer : List ℕ} → given ≡ answer → made ≡ record { answer = answer; buffer = buffer }
+    → record { result_value : given ≡ made.answer; buffer_after : buffer ≡ made.buffer }
+settled same e = record { result_value = same ∙ sym (ap (λ (x : Made). x.answer) e); buffer_after = sym (ap (λ (x : Made). x.buffer) e) }
+
+pub returns-in_err-prepare : goal.returns-in_err-prepare
+returns-in_err-prepare c =
     let a = c.args in
-    let e = evidence_off a.problem.now a.answer.now a.buffer.now x.ensures.f_after (not-true x.result.ok c.if-not-b.true) in
-    record { result_value = sym (ap (λ (x : Made). x.answer) e); buffer_after = sym (ap (λ (x : Made). x.buffer) e) }
+    let s = a.problem.now in
+    settled (reply_meant_unread _ c.from_residual.ensures.1) (evidence_off s a.answer.now a.buffer.now (problem_off s c.in_err-prepare.ensures.form_after))
 
-pub read_answer_into-a-requires : goal.read_answer_into-a-requires
-read_answer_into-a-requires c =
+-- Past the first `?` the problem was read, past the second the answer.
+pub read_answer_into-requires-clause-m_le_most_rows : goal.read_answer_into-requires-clause-m_le_most_rows
+read_answer_into-requires-clause-m_le_most_rows c =
+    let head = problem_head c.args.problem.now c.in_ok-prepare.ensures.form_after in (head.rows_most, head.columns_most)
+
+pub returns-in_err-read_answer_into : goal.returns-in_err-read_answer_into
+returns-in_err-read_answer_into c =
     let a = c.args in
-    let sound = problem_head a.problem.now c.prepare-b.ensures.f_after (not-false c.prepare-b.result.ok c.if-not-b.false) in
-    record { m_le_most_rows = (sound.rows_most, sound.columns_most); entries_value = c.no_entries-entries.ensures }
+    let s = a.problem.now in
+    let problem = problem_read s c.in_ok-prepare.ensures.form_after in
+    settled (reply_meant_unread _ c.from_residual-in_err-read_answer_into.ensures.1)
+    (evidence_answer_off s a.answer.now a.buffer.now problem (basis_off c.prepare.new.form (problem_valid s problem) a.answer.now c.in_err-read_answer_into.ensures))
 
-pub returns-then-not-a : goal.returns-then-not-a
-returns-then-not-a c =
-    let y = c.read_answer_into-a in
-    let a = c.args in
-    let e = evidence_answer_off a.problem.now a.answer.now a.buffer.now c.prepare-b.ensures.f_after (not-false c.prepare-b.result.ok c.if-not-b.false) y.ensures
-    c.if-not-a.true in
-    record { result_value = sym (ap (λ (x : Made). x.answer) e); buffer_after = sym (ap (λ (x : Made). x.buffer) e) }
+pub put_evidence-needed-requires-clause-sound : goal.put_evidence-needed-requires-clause-sound
+put_evidence-needed-requires-clause-sound c =
+    let s = c.args.problem.now in
+    let read = c.in_ok-prepare.ensures.form_after in
+    (problem_sound s read, basis_sound c.prepare.new.form (problem_valid s (problem_read s read)) c.args.answer.now c.in_ok-read_answer_into.ensures)
 
-pub put_evidence-needed-requires : goal.put_evidence-needed-requires
+pub put_evidence-needed-requires-clause-n_in_bounds : goal.put_evidence-needed-requires-clause-n_in_bounds
 unfolding most_rows
-put_evidence-needed-requires c =
+put_evidence-needed-requires-clause-n_in_bounds c =
+    let head = problem_head c.args.problem.now c.in_ok-prepare.ensures.form_after in omega (arith, rectangle_most head.rows_most head.columns_most)
+
+pub returns-then-buffer-needed : goal.returns-then-buffer-needed
+returns-then-buffer-needed c =
     let a = c.args in
-    let x = c.prepare-b in
-    let y = c.read_answer_into-a in
-    let sound : SoundHead x.result.head = problem_head a.problem.now x.ensures.f_after (not-false c.prepare-b.result.ok c.if-not-b.false) in record {
-      sound_head = (
-        sound,
-        (
-          problem_columns a.problem.now x.ensures.f_after (not-false c.prepare-b.result.ok c.if-not-b.false),
-          both_basis a.problem.now a.answer.now a.buffer.now x.ensures.f_after (not-false c.prepare-b.result.ok c.if-not-b.false) y.ensures c.if-not-a.false,
-        ),
-      );
-      n_in_bounds = omega (arith, rectangle_most sound.rows_most sound.columns_most);
-    }
-
--- The record lies within its array.
-within : {before after text : List ℕ} {end : ℕ} → Appended before after 0 end text → end ≤ length after
-within {before} {after} {end = end} put = appended_within before after 0 end _ zero-le put
-
-pub slice_bounds-record-end : goal.slice_bounds-record-end
-slice_bounds-record-end c =
-    let made = within c.put_evidence-needed.ensures in
-    elim c.if-buffer-needed.branch [ then-buffer-needed w ↦ omega arith | else-buffer-needed w ↦ omega arith ]
-
-pub slice_bounds-put_text-end : goal.slice_bounds-put_text-end
-slice_bounds-put_text-end c =
-    let made = within c.put_evidence-needed.ensures in
-    elim c.if-buffer-needed.branch [ then-buffer-needed w ↦ simp length-take (omega arith) | else-buffer-needed w ↦ simp length-take (omega arith) ]
-
-pub put_text-requires : goal.put_text-requires
-put_text-requires c =
-    let made = within c.put_evidence-needed.ensures in
-    elim c.if-buffer-needed.branch [ then-buffer-needed w ↦ simp length-take (omega arith) | else-buffer-needed w ↦ simp length-take (omega arith) ]
-
-pub overflow_cast-at : goal.overflow_cast-at
-overflow_cast-at c = omega (arith, within c.put_evidence-needed.ensures)
-
-pub returns-then-count-needed : goal.returns-then-count-needed
-returns-then-count-needed c =
-    let put = c.put_evidence-needed in
-    let front = c.put_text in
-    let a = c.args in
-    let x = c.prepare-b in
-    let y = c.read_answer_into-a in
-    elim c.if-buffer-needed.branch [
-      | then-buffer-needed w ↦
-          let e = room_lacks a.problem.now a.answer.now a.buffer.now x.ensures.f_after (not-false c.prepare-b.result.ok c.if-not-b.false) y.ensures c.if-not-a.false _ put.new.out put.result put.ensures front.new.out c.if-buffer-needed.count front.result front.ensures
-          (omega arith) (omega arith) in
-          record { result_value = sym (ap (λ (x : Made). x.answer) e); buffer_after = sym (ap (λ (x : Made). x.buffer) e) }
-      | else-buffer-needed w ↦ absurd (omega arith)
-    ]
+    let s = a.problem.now in
+    let problem = problem_read s c.in_ok-prepare.ensures.form_after in
+    let basis = basis_read c.prepare.new.form (problem_valid s problem) a.answer.now c.in_ok-read_answer_into.ensures in
+    settled refl (room_lacks s a.answer.now a.buffer.now problem basis c.put_evidence-needed.ensures (omega arith))
 
 pub returns : goal.returns
 returns c =
-    let put = c.put_evidence-needed in
-    let front = c.put_text in
     let a = c.args in
-    let x = c.prepare-b in
-    let y = c.read_answer_into-a in
-    elim c.if-buffer-needed.branch [
-      | then-buffer-needed w ↦ absurd (omega arith)
-      | else-buffer-needed w ↦
-          let e = evidence_put a.problem.now a.answer.now a.buffer.now x.ensures.f_after (not-false c.prepare-b.result.ok c.if-not-b.false) y.ensures c.if-not-a.false _ put.new.out put.result put.ensures front.new.out c.if-buffer-needed.count front.result front.ensures
-          (omega arith) (omega arith) in
-          record { result_value = sym (ap (λ (x : Made). x.answer) e); buffer_after = sym (ap (λ (x : Made). x.buffer) e) }
-    ]
+    let s = a.problem.now in
+    let problem = problem_read s c.in_ok-prepare.ensures.form_after in
+    let basis = basis_read c.prepare.new.form (problem_valid s problem) a.answer.now c.in_ok-read_answer_into.ensures in
+    settled refl (evidence_put s a.answer.now a.buffer.now problem basis c.put_evidence-needed.ensures (omega arith) c.put_text.ensures)
