@@ -1,2 +1,3 @@
 pub mod Shifts
 pub mod Values
+pub mod Prefix

@@ -23,54 +23,52 @@ const SH: u32 = 0x53 + 256 * 0x48;
 
 const FC: u32 = 0x46 + 256 * 0x43;
 
-// s: the file. q: the place of the first of n orders. out: where they go.
+// s: the file. q: the place of the first order. out: where the orders go, as many as it has room for.
 // How the reading goes on after them.
-fn order_list(s: &[u8], q: Place, n: usize, out: &mut [usize]) -> Result<Place, Stop>
-    requires { n ≤ length out.old }
-    ensures { going result out.new ≡ into (list_into out.old) (each n (λ j. field 1 (unless 3 (one_to most_order))) s.now (place q)) }
+fn order_list(s: &[u8], q: Place, out: &mut [usize]) -> Result<Place, Stop>
+    ensures { going result out.new ≡ into (list_into out.old) (each (length out.old) (λ j. field 1 (unless 3 (one_to most_order))) s.now (place q)) }
 {
     let mut here = q;
-    for j in 0..n {
+    for order in out.iter_mut() {
         let (v, next) = read_size(s, here, ORDER as u32)?;
-        out[j] = v as usize;
+        *order = v as usize;
         here = next;
     }
     Ok(here)
 }
 
-// s: the file. q: the place of the first of m shifts. out: where they go.
+// s: the file. q: the place of the first shift. out: where the shifts go, as many as it has room for.
 // How the reading goes on after them.
-fn shift_list(s: &[u8], q: Place, m: usize, out: &mut [i32]) -> Result<Place, Stop>
-    requires { m ≤ length out.old }
-    ensures { going result out.new ≡ into (shifts_into out.old) (each m (λ i. shift_reader) s.now (place q)) }
+fn shift_list(s: &[u8], q: Place, out: &mut [i32]) -> Result<Place, Stop>
+    ensures { going result out.new ≡ into (shifts_into out.old) (each (length out.old) (λ i. shift_reader) s.now (place q)) }
 {
     let mut here = q;
-    for i in 0..m {
+    for shift in out.iter_mut() {
         let (v, next) = read_shift(s, here)?;
-        out[i] = signed16(v);
+        *shift = signed16(v);
         here = next;
     }
     Ok(here)
 }
 
-// s: the file. q: the place of the `OR` record. n: the columns. out: where their orders go.
+// s: the file. q: the place of the `OR` record. out: where the columns' orders go, one for each column.
 // How the reading goes on after the record.
-fn read_orders(s: &[u8], q: Place, n: usize, out: &mut [usize]) -> Result<Place, Stop>
-    requires { (q.number < 65535) × (n ≤ length out.old) }
-    ensures { going result out.new ≡ into (list_into out.old) (Files.OR n s.now (place q)) }
+fn read_orders(s: &[u8], q: Place, out: &mut [usize]) -> Result<Place, Stop>
+    requires { q.number < 65535 }
+    ensures { going result out.new ≡ into (list_into out.old) (Files.OR (length out.old) s.now (place q)) }
 {
     let (_, q) = read_mark(s, opened(q), OR)?;
-    closed(order_list(s, q, n, out))
+    closed(order_list(s, q, out))
 }
 
-// s: the file. q: the place of the `SH` record. m: the rows. out: where their shifts go.
+// s: the file. q: the place of the `SH` record. out: where the rows' shifts go, one for each row.
 // How the reading goes on after the record.
-fn read_shifts(s: &[u8], q: Place, m: usize, out: &mut [i32]) -> Result<Place, Stop>
-    requires { (q.number < 65535) × (m ≤ length out.old) }
-    ensures { going result out.new ≡ into (shifts_into out.old) (Files.SH m s.now (place q)) }
+fn read_shifts(s: &[u8], q: Place, out: &mut [i32]) -> Result<Place, Stop>
+    requires { q.number < 65535 }
+    ensures { going result out.new ≡ into (shifts_into out.old) (Files.SH (length out.old) s.now (place q)) }
 {
     let (_, q) = read_mark(s, opened(q), SH)?;
-    closed(shift_list(s, q, m, out))
+    closed(shift_list(s, q, out))
 }
 
 // s: the file. q: the place of the `FC` record of column j. head: the problem's numbers: the record has m rows of as many coefficients modulo p
@@ -114,12 +112,13 @@ fn read_columns(s: &[u8], q: Place, head: &Head, out: &mut [u32]) -> Result<Plac
 pub(crate) fn read_body(s: &[u8], q: Place, problem: &mut Problem) -> Result<Place, Stop>
     requires number_bound { (q.number < 2) × (problem.old.head.m ≤ most_rows) × (problem.old.head.n ≤ most_rows) }
     requires orders_value { problem.old.head.orders ≡ filled most_rows 0 }
+    requires shifts_len { length problem.old.head.shifts ≡ most_rows }
     ensures kept { (problem.new.head.p ≡ problem.old.head.p) × (problem.new.head.m ≡ problem.old.head.m) × (problem.new.head.n ≡ problem.old.head.n) }
     ensures read { going result (problem.new.head.orders, problem.new.head.shifts, problem.new.f) ≡ into (body_into (problem.old.head.orders, problem.old.head.shifts, problem.old.f)) (body_reader problem.old.head.p problem.old.head.m problem.old.head.n s.now (place q)) }
 {
     let head = &mut problem.head;
-    let q = read_orders(s, q, head.n, &mut head.orders)?;
-    let q = read_shifts(s, q, head.m, &mut head.shifts)?;
+    let q = read_orders(s, q, &mut head.orders[..head.n])?;
+    let q = read_shifts(s, q, &mut head.shifts[..head.m])?;
     let q = read_columns(s, q, &problem.head, &mut problem.f)?;
     finish(s, q)
 }

@@ -10,15 +10,15 @@ use Rattle.problem_file.proofs.records.order_list.Goals as goal
 pub returns-in_err-v : goal.returns-in_err-v
 unfolding most_order
 returns-in_err-v c =
-    going_off _ (error_is c.from_residual.ensures.1) ∙ stopped c.loop-j.invariant.1 c.loop-j-test.true (into_off _ c.in_err-v.ensures)
+    going_off _ (error_is c.from_residual.ensures.1) ∙ stopped c.loop-order.invariant.1 c.loop-order-test.true (into_off _ c.in_err-v.ensures)
 
-pub loop-j-preserved : goal.loop-j-preserved
+pub loop-order-preserved : goal.loop-order-preserved
 unfolding most_order
-loop-j-preserved c =
-    let loop = c.loop-j in (
+loop-order-preserved c =
+    let loop = c.loop-order in (
       simp length-set loop.invariant.0,
-      went_on loop.invariant.1 c.loop-j-test.true (into_on _ c.in_ok-v.ensures),
+      went_on loop.invariant.1 c.loop-order-test.true (into_on _ c.in_ok-v.ensures),
     )
 
 pub returns : goal.returns
-returns c = ended c.loop-j.invariant.1 c.loop-j-test.false
+returns c = ended c.loop-order.invariant.1 c.loop-order-test.false

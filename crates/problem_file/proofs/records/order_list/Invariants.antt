@@ -7,5 +7,7 @@ use Rattle.storing.specs.Storing.{Kept}
 use Rattle.place.specs.Places.{place}
 use Rattle.problem_file.proofs.records.order_list.Given as goal
 
-abbrev pub invariant-loop-j : goal.invariant-loop-j
-invariant-loop-j l = (length l.out ≡ length l.initial.out) × Kept set (λ k. field 1 (unless 3 (one_to most_order))) l.s l.n l.initial.out (place l.initial.here) l.j l.out (place l.here)
+abbrev pub invariant-loop-order : goal.invariant-loop-order
+invariant-loop-order l =
+    (length l.out ≡ length l.fn.out)
+    × Kept set (λ k. field 1 (unless 3 (one_to most_order))) l.s (length l.fn.out) l.fn.out (place l.initial.here) l.order-index l.out (place l.here)
