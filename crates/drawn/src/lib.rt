@@ -37,12 +37,12 @@ fn times_point(row: &mut [u32], point: u32, p: u32)
     }
 }
 
-// values, row: as many numbers, below p. basis: of a claim. x: a power.
+// values, row: numbers below p, at most as many as there may be rows. basis: of a claim. x: a power.
 // The values, to each of which the products of the row with a column of P at that power are added, modulo p.
 fn add_power(values: &mut [u32], row: &[u32], basis: &Basis, x: usize, p: u32)
     requires p_nonzero { (0 < p) × ((p ≤ largest_prime) × (x < most_length)) }
     requires below { Each p values.old × (Each p row.now × Each p basis.now.entries) }
-    requires same_length { (length values.old ≤ most_rows) × (length row.now ≤ most_rows) }
+    requires length_le_most_rows { (length values.old ≤ most_rows) × (length row.now ≤ most_rows) }
     ensures { AddedPower p (length row.now) (length values.old) values.old row.now basis.now.entries x values.new }
 {
     for (l, value) in values.iter_mut().enumerate() {
@@ -137,11 +137,8 @@ fn largest_order(head: &Head) -> usize
     requires { Ordered head.now.orders × (head.now.n ≤ most_rows) }
     ensures { Largest head.now.n head.now.orders result }
 {
-    let mut most = 0;
-    for j in 0..head.n {
-        most = most.max(head.orders[j]);
-    }
-    most
+    let orders = &head.orders[..head.n];
+    orders.iter().copied().max().unwrap_or(0)
 }
 
 // problem, answer: a claim. u, point: the numbers drawn.
