@@ -1,11 +1,14 @@
 -- What holds of a field of any number and its test's code. No proof cites it now; it stands because it was stated.
 --   one_to_low, one_to_high          a size test after its first half
 --   any_refused, any_passed, any_failed      a test after a field of any number
+--   tested_of, tested_field  what the code makes of a number and its test's code
 --   coefficient_last, coefficient_other      the test of a coefficient, of the last one and of another
-use Rattle.std.specs.Prelude.{◌≡◌, refl, ◌≢◌, Bool, true, false, cond, not, List, ℕ, suc, ◌+◌, ◌≤◌, ◌<◌, leb, ltb, eqb}
-use Rattle.std.proofs.Common.{sym, ap, ◌∙◌, add-one, le-leb, eq-eqb, ne_eqb}
-use Rattle.std.proofs.lemmas.Bool.{lt-leb}
+use Rattle.std.specs.Prelude.{Ok, Err, ◌≡◌, refl, ◌≢◌, Bool, true, false, cond, not, List, ℕ, suc, ◌+◌, ◌≤◌, ◌<◌, leb, ltb, eqb}
+use Rattle.std.proofs.Common.{sym, ap, ◌∙◌, add-one, le-leb, eq-eqb, ne_eqb, eqb-true}
+use Rattle.std.proofs.lemmas.Bool.{lt-leb, eqb-false}
 use Rattle.rules.specs.Reader.{Place, Refusal, refused, got, field, unless}
+use Rattle.place.specs.declared.Place.{Place as Spot}
+use Rattle.place.specs.Places.{place, taken, Field}
 use Rattle.rules.specs.Files.{one_to, coefficient_test}
 use Rattle.laws.specs.ReaderLaws.{got_not_refused, field_short, field_failed, field_got, field_cases}
 
@@ -61,3 +64,18 @@ coefficient_last p L k v e = last_code p v ∙ sym (coefficient_by p L k v true 
 pub coefficient_other : (p L k v : ℕ) → (k + 1 ≡ L → ⊥) → cond {A = ℕ} (ltb v p) 0 6 ≡ coefficient_test p L k v
 unfolding by_last
 coefficient_other p L k v ne = in_range (ltb v p) ∙ sym (coefficient_by p L k v false (ne_eqb (k + 1) L ne))
+
+-- What the code makes of a number and its test's code.
+abbrev pub tested_of : Spot → ℕ → Spot → ℕ → Field
+tested_of q v next code = cond (eqb code 0) (Ok (v, next)) (Err (record { code = code; place = q }))
+
+-- What the code makes of a field's number and its test's code is the rules' field.
+pub tested_field : (k : ℕ) (test : ℕ → ℕ) (s : List ℕ) (q : Spot) (v : ℕ) (next : Spot) (code : ℕ)
+    → field k (λ v. 0) s (place q) ≡ got v (place next) → code ≡ test v → taken (tested_of q v next code) ≡ field k test s (place q)
+tested_field k test s q v next code read same = go (eqb code 0) refl
+  where
+    go : (b : Bool) → eqb code 0 ≡ b → taken (cond b (Ok (v, next)) (Err (record { code = code; place = q }))) ≡ field k test s (place q)
+    go true e = sym (any_passed k test s (place q) v (place next) read (sym same ∙ eqb-true code 0 e))
+    go false e =
+        ap (λ (n : ℕ). refused (record { code = n; place = place q })) same
+        ∙ sym (any_failed k test s (place q) v (place next) read (λ z. eqb-false code 0 e (same ∙ z)))

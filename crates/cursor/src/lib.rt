@@ -4,7 +4,7 @@
 ghost use Rattle.std.specs.Prelude.{◌≡◌, Bool, ℕ, ◌+◌, ◌^◌, ◌<◌, nat_abs, leb};
 ghost use Rattle.rules.specs.Reader.{mark, field, unless};
 ghost use Rattle.rules.specs.Files.{allowed_prime, one_to, due, shift_in_size, coefficient_test, two's_complement};
-ghost use Rattle.place.specs.Places.{place, taken, code};
+ghost use Rattle.place.specs.Places.{place, taken, code, refusal};
 ghost use Rattle.number.specs.Widths.{Width};
 
 use layout::{PRIME, SHIFT};
@@ -44,6 +44,17 @@ pub fn signed16(v: u32) -> i32
     }
 }
 
+// reason: why a field is refused. q: its place.
+// The refusal.
+fn stop(reason: Reason, q: Place) -> Stop
+    ensures { refusal result ≡ record { code = code reason; place = place q } }
+{
+    Stop {
+        code: reason as u8,
+        place: q,
+    }
+}
+
 // s: the file. q: a field's place. width: how many bytes it has: 1, 2 or 4. reason: why it is refused where `test` does not hold of its number.
 // The number and the place after it, or the refusal.
 fn read_field<F: FnOnce(u32) -> bool>(
@@ -61,7 +72,7 @@ fn read_field<F: FnOnce(u32) -> bool>(
     if test(v) {
         Ok((v, next))
     } else {
-        Err(Stop { reason, place: q })
+        Err(stop(reason, q))
     }
 }
 
@@ -120,10 +131,7 @@ pub fn read_coefficient(
 {
     let (v, next) = read_field(s, q, 4, Reason::NotBelowPrime, |v| v < p)?;
     if k + 1 == length && v == 0 {
-        return Err(Stop {
-            reason: Reason::LastIsZero,
-            place: q,
-        });
+        return Err(stop(Reason::LastIsZero, q));
     }
     Ok((v, next))
 }

@@ -38,7 +38,7 @@ pub fn read_number(s: &[u8], q: Place, k: usize) -> Result<(u32, Place), Stop>
 {
     if !whole(s, q.at, k) {
         return Err(Stop {
-            reason: Reason::CutShort,
+            code: Reason::CutShort as u8,
             place: q,
         });
     }

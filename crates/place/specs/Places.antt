@@ -40,7 +40,7 @@ code_least LastIsZero = omega arith
 code_least BytesLeft = omega arith
 
 abbrev pub refusal : Stop → Refusal
-refusal x = record { code = code x.reason; place = place x.place }
+refusal x = record { code = x.code; place = place x.place }
 
 abbrev pub Field : Type 0
 Field = Outcome (ℕ × Spot) Stop
@@ -74,38 +74,14 @@ Numbered (Err x) = Unit {0}
 
 -- After the last record of a file of that length: its end, or refusal 8.
 abbrev pub finish_of : ℕ → Spot → Going
-finish_of n q = cond (eqb q.at n) (Ok q) (Err (record { reason = BytesLeft; place = opened_at q }))
+finish_of n q = cond (eqb q.at n) (Ok q) (Err (record { code = 8; place = opened_at q }))
 
 -- The rules' places, refusals and results of a field tell the code's apart.
 pub place_one : (q r : Spot) → place q ≡ place r → q ≡ r
 place_one q r e = λ i. record { file = (e i).file; number = (e i).number; start = (e i).start; at = (e i).at }
 
--- The reason of a code.
-abbrev reason : ℕ → Reason
-reason n =
-    cond (eqb n 1) CutShort
-    (cond (eqb n 2) WrongMark
-    (cond (eqb n 3) WrongSize
-    (cond (eqb n 4) WrongPrime (cond (eqb n 5) WrongNumber (cond (eqb n 6) NotBelowPrime (cond (eqb n 7) LastIsZero BytesLeft))))))
-
-reason_code : (r : Reason) → reason (code r) ≡ r
-reason_code CutShort = refl
-reason_code WrongMark = refl
-reason_code WrongSize = refl
-reason_code WrongPrime = refl
-reason_code WrongNumber = refl
-reason_code NotBelowPrime = refl
-reason_code LastIsZero = refl
-reason_code BytesLeft = refl
-
-code_one : (r t : Reason) → code r ≡ code t → r ≡ t
-code_one r t e = sym (reason_code r) ∙ ap reason e ∙ reason_code t
-
 pub refusal_one : (x y : Stop) → refusal x ≡ refusal y → x ≡ y
-refusal_one x y e =
-    let same = code_one x.reason y.reason (ap (λ (z : Refusal). z.code) e) in
-    let there = place_one x.place y.place (ap (λ (z : Refusal). z.place) e) in
-    λ i. record { reason = same i; place = there i }
+refusal_one x y e = λ i. record { code = (e i).code; place = place_one x.place y.place (ap (λ (z : Refusal). z.place) e) i }
 
 got_one : {v w : ℕ} {p q : Place} → got v p ≡ got w q → (v ≡ w) × (p ≡ q)
 got_one e = (cc, cc)

@@ -28,10 +28,10 @@ pub enum Reason {
     BytesLeft = 8,
 }
 
-// A refusal: its reason, and the place of the field refused.
+// A refusal: its code, and the place of the field refused.
 #[derive(Clone, Copy)]
 pub struct Stop {
-    pub reason: Reason,
+    pub code: u8,
     pub place: Place,
 }
 
@@ -95,7 +95,7 @@ pub fn finish(s: &[u8], q: Place) -> Result<Place, Stop>
         Ok(q)
     } else {
         Err(Stop {
-            reason: Reason::BytesLeft,
+            code: Reason::BytesLeft as u8,
             place: opened(q),
         })
     }

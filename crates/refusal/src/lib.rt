@@ -16,7 +16,7 @@ pub fn narrow(x: Stop) -> Refusal
 {
     let q = x.place;
     Refusal {
-        code: x.reason as u8,
+        code: x.code,
         file: q.file,
         number: q.number,
         at: q.at as u32,

@@ -12,7 +12,6 @@ use Prim.Native.Nat.{ℕ, zero, suc, ◌+◌, ◌-◌, ◌≤◌, ◌<◌}
 use native.Mathlib.Omega.{arith}
 use Rattle.rules.specs.Reader.{Place, Refusal, Result, refused, got, Reader, next, each, end}
 use Rattle.place.specs.declared.Place.{Place as Spot}
-use Rattle.place.specs.declared.Reason.TheVariants.{BytesLeft}
 use Rattle.std.specs.Prelude.{Ok, Err}
 use Rattle.place.specs.Places.{place, refusal, going, finish_of, opened_at, Going}
 
@@ -64,8 +63,8 @@ going_finish : {B : Type 0} (b : B) (s : List ℕ) (q : Spot) → going (finish_
 unfolding end
 going_finish b s q = go (eqb q.at (length s))
   where
-    go : (t : Bool) → going (cond t (Ok q) (Err (record { reason = BytesLeft; place = opened_at q }))) b
-        ≡ cond t (got b (place q)) (refused (refusal (record { reason = BytesLeft; place = opened_at q })))
+    go : (t : Bool) → going (cond t (Ok q) (Err (record { code = 8; place = opened_at q }))) b
+        ≡ cond t (got b (place q)) (refused (refusal (record { code = 8; place = opened_at q })))
     go true = refl
     go false = refl
 

@@ -1,5 +1,6 @@
 -- `cursor::read_coefficient` meets its contract. Assumes nothing.
 use Rattle.std.proofs.Common.{sym, ap, ◌∙◌, ltb, rules}
+use Rattle.rules.specs.Reader.{refused}
 use Rattle.place.specs.Places.{taken, error_is}
 use Rattle.cursor.specs.Fields.{coefficient_refused, coefficient_passed, coefficient_zero}
 use Rattle.cursor.proofs.read_coefficient.Goals as goal
@@ -12,7 +13,8 @@ returns-in_err-v c =
 
 pub returns-then-v-eq0 : goal.returns-then-v-eq0
 returns-then-v-eq0 c =
-    sym
+    ap refused c.stop.ensures
+    ∙ sym
     (coefficient_zero _ _ _ _ _ (sym (c.in_ok-v.ensures (λ v. ltb v c.args.p) (λ v b post. search rules))) c.if-k-length.true c.if-v-eq0.true)
 
 pub returns : goal.returns
