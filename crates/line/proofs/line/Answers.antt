@@ -14,12 +14,11 @@ put_text-requires c = omega (arith, digits_word c.args.v.at (omega arith))
 
 pub returns-then-v-eq0 : goal.returns-then-v-eq0
 returns-then-v-eq0 c =
-    let a = c.args in
-    let v = four a.v.code a.v.file a.v.number a.v.at in
-    subst (Appended a.out.now c.put_text.new.out 0 c.put_text.result) (sym (line_passed v c.if-v-eq0.true))
-    (appended_both a.out.now c.put_number-end.new.out c.put_text.new.out 0 c.put_number-end.result c.put_text.result _ (10 ∷ [])
-    (appended_both a.out.now c.put_text-word.new.out c.put_number-end.new.out 0 c.put_text-word.result c.put_number-end.result pass_word (digits v.at)
-    c.put_text-word.ensures c.put_number-end.ensures)
+    let v = c.args.v in
+    let numbers = four v.code v.file v.number v.at in
+    subst (Appended c.args.out.now c.put_text.new.out 0 c.put_text.result) (sym (line_passed numbers c.if-v-eq0.true))
+    (appended_both _ _ _ _ _ _ _ (10 ∷ [])
+    (appended_both _ _ _ _ _ _ pass_word (digits v.at) c.put_text-word.ensures c.put_number-end.ensures)
     c.put_text.ensures)
 
 pub put_text-requires-2 : goal.put_text-requires-2
@@ -29,10 +28,9 @@ put_text-requires-2 c =
 
 pub returns : goal.returns
 returns c =
-    let a = c.args in
-    let v = four a.v.code a.v.file a.v.number a.v.at in
-    subst (Appended a.out.now c.put_text-2.new.out 0 c.put_text-2.result) (sym (line_refused v c.if-v-eq0.false))
-    (appended_both a.out.now c.put_numbers-end.new.out c.put_text-2.new.out 0 c.put_numbers-end.result c.put_text-2.result _ (10 ∷ [])
-    (appended_both a.out.now c.put_text-word-2.new.out c.put_numbers-end.new.out 0 c.put_text-word-2.result c.put_numbers-end.result refuse_word (four_numbers v)
-    c.put_text-word-2.ensures c.put_numbers-end.ensures)
+    let v = c.args.v in
+    let numbers = four v.code v.file v.number v.at in
+    subst (Appended c.args.out.now c.put_text-2.new.out 0 c.put_text-2.result) (sym (line_refused numbers c.if-v-eq0.false))
+    (appended_both _ _ _ _ _ _ _ (10 ∷ [])
+    (appended_both _ _ _ _ _ _ refuse_word (four_numbers numbers) c.put_text-word-2.ensures c.put_numbers-end.ensures)
     c.put_text-2.ensures)

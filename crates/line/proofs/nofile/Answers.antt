@@ -13,7 +13,6 @@ put_text-requires c = omega (arith, digits_byte c.args.file (omega arith))
 pub returns : goal.returns
 unfolding nofile_line
 returns c =
-    appended_both c.args.out.now c.put_number-number.new.out c.put_text.new.out 0 c.put_number-number.result c.put_text.result _ (10 ∷ [])
-    (appended_both c.args.out.now c.put_text-word.new.out c.put_number-number.new.out 0 c.put_text-word.result c.put_number-number.result nofile_word (digits c.args.file) c.put_text-word.ensures
-    c.put_number-number.ensures)
+    appended_both _ _ _ _ _ _ _ (10 ∷ [])
+    (appended_both _ _ _ _ _ _ nofile_word (digits c.args.file) c.put_text-word.ensures c.put_number-number.ensures)
     c.put_text.ensures

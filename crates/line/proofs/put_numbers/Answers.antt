@@ -1,5 +1,5 @@
-use Rattle.std.proofs.Common.{◌++◌, ◌≤◌, ◌+◌, ◌<◌, ◌^◌, ℕ, length, length-append, arith}
-use Rattle.rules.specs.Print.{digits, space}
+use Rattle.std.proofs.Common.{◌≤◌, ◌+◌, ◌<◌, ◌^◌, ℕ, length, length-append, arith}
+use Rattle.rules.specs.Print.{digits}
 use Rattle.writer.specs.Appended.{appended_both}
 use Rattle.line.specs.Text.{numbers_room, four_numbers_length}
 use Rattle.line.proofs.put_numbers.Goals as goal
@@ -24,9 +24,6 @@ put_spaced-requires c = let v = c.args.v in omega (arith, within v.code v.file v
 
 pub returns : goal.returns
 returns c =
-    let x = appended_both c.args.out.now c.put_number-code.new.out c.put_spaced-file.new.out c.args.at c.put_number-code.result c.put_spaced-file.result (digits c.args.v.code)
-    (space ++ digits c.args.v.file) c.put_number-code.ensures c.put_spaced-file.ensures in
-    let y = appended_both c.args.out.now c.put_spaced-file.new.out c.put_spaced-number.new.out c.args.at c.put_spaced-file.result c.put_spaced-number.result _ (space ++ digits c.args.v.number) x
-    c.put_spaced-number.ensures in
-    appended_both c.args.out.now c.put_spaced-number.new.out c.put_spaced.new.out c.args.at c.put_spaced-number.result c.put_spaced.result _ (space ++ digits c.args.v.at) y
+    appended_both _ _ _ _ _ _ _ _
+    (appended_both _ _ _ _ _ _ _ _ (appended_both _ _ _ _ _ _ _ _ c.put_number-code.ensures c.put_spaced-file.ensures) c.put_spaced-number.ensures)
     c.put_spaced.ensures
