@@ -1,1 +1,1 @@
-mod Unique
+pub mod Unique
