@@ -3,7 +3,7 @@
 --   left_after x old         what they are after a reading: the problem that was read, or what they were
 --   refused_number, refused_left, read_number, read_left       a problem that is refused, and one that is read
 --   JudgedAs head f t r      the number r packs what the answer t gets for the form; judged_as_unique     it is settled
-use Rattle.std.specs.Prelude.{◌≡◌, Bool, true, false, cond, List, ℕ, ℤ}
+use Rattle.std.specs.Prelude.{◌≡◌, List, ℕ, ℤ, Result as Outcome, Ok, Err}
 use Rattle.std.proofs.Math.Path.{sym}
 use Rattle.std.proofs.Common.{ap, ◌∙◌}
 use Rattle.rules.specs.Files.{read_problem}
@@ -12,7 +12,7 @@ use Rattle.rules.specs.Prepared.{PreparedVerdict, prepared_numbers, Judges, prep
 use Rattle.verdict.specs.Meant.{refusal_of}
 use Rattle.claim.specs.declared.Head.{Head}
 use Rattle.claim.specs.declared.Problem.{Problem}
-use Rattle.problem_file.specs.declared.ReadProblem.{ReadProblem}
+use Rattle.verdict.specs.declared.Refusal.{Refusal as Refused}
 use Rattle.problem_file.specs.Values.{problem_value}
 use Rattle.reader.specs.Readings.{problem_off, problem_read}
 use Rattle.prepared.specs.Form.{form_of}
@@ -24,28 +24,28 @@ head_with p m n orders shifts = record { p = p; m = m; n = n; orders = orders; s
 abbrev pub problem_with : (p m n : ℕ) → List ℕ → List ℤ → List ℕ → Problem
 problem_with p m n orders shifts f = record { head = head_with p m n orders shifts; f = f }
 
-abbrev pub left_after : ReadProblem → Problem → Problem
-left_after x old = cond x.ok x.problem old
+abbrev pub left_after : Outcome (Unit {0}) Refused × Problem → Problem → Problem
+left_after (Ok u, read) old = read
+left_after (Err r, read) old = old
 
-module _ (s : List ℕ) {x : ReadProblem} (e : x ≡ problem_value (read_problem s)) (old : Problem) where
-  left_as : {t : Bool} → x.ok ≡ t → cond t x.problem old ≡ left_after (problem_value (read_problem s)) old
-  left_as h = sym (ap (λ (t : Bool). cond t x.problem old) h) ∙ ap (λ (y : ReadProblem). left_after y old) e
-
+module _ (s : List ℕ) {x : Problem} (old : Problem) where
   -- The problem is refused, …
-  pub refused_number : x.ok ≡ false → numbers (unread (refusal_of x.refusal)) ≡ prepare_numbers (read_problem s)
-  unfolding prepare_numbers
-  refused_number h = sym (ap prepare_numbers (problem_off s e h))
+  module _ {r : Refused} (e : (Err r, x) ≡ problem_value (read_problem s)) where
+    pub refused_number : numbers (unread (refusal_of r)) ≡ prepare_numbers (read_problem s)
+    unfolding prepare_numbers
+    refused_number = sym (ap prepare_numbers (problem_off s e))
 
-  pub refused_left : x.ok ≡ false → old ≡ left_after (problem_value (read_problem s)) old
-  refused_left h = left_as h
+    pub refused_left : old ≡ left_after (problem_value (read_problem s)) old
+    refused_left = ap (λ y. left_after y old) e
 
   -- … or read.
-  pub read_number : x.ok ≡ true → 0 ≡ packed (prepare_numbers (read_problem s))
-  unfolding prepare_numbers packed
-  read_number h = sym (ap (λ m. packed (prepare_numbers m)) (problem_read s e h))
+  module _ (e : (Ok tt, x) ≡ problem_value (read_problem s)) where
+    pub read_number : 0 ≡ packed (prepare_numbers (read_problem s))
+    unfolding prepare_numbers packed
+    read_number = sym (ap (λ m. packed (prepare_numbers m)) (problem_read s e))
 
-  pub read_left : x.ok ≡ true → x.problem ≡ left_after (problem_value (read_problem s)) old
-  read_left h = left_as h
+    pub read_left : x ≡ left_after (problem_value (read_problem s)) old
+    read_left = ap (λ y. left_after y old) e
 
 pub record JudgedAs (head : Head) (f t : List ℕ) (r : ℕ) : Type 0 where
   pub verdict : PreparedVerdict

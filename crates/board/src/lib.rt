@@ -13,12 +13,12 @@ ghost use Rattle.problem_file.specs.Values.{problem_value};
 ghost use Rattle.board.specs.Lent.{head_with, problem_with, left_after, JudgedAs};
 
 use basis_making::{basis_file, basis_numbers};
-use claim::Head;
+use claim::{Head, Problem, no_problem};
 use drawing::{draw_files, drawn_numbers};
 use judging::{judge_files, prepared_numbers};
-use layout::{COLUMN_COEFFICIENTS, ROWS, no_columns};
+use layout::{COLUMN_COEFFICIENTS, ROWS};
 use making::evidence_files;
-use verdict::{Verdict, numbers, pack, reply_numbers};
+use verdict::{Fault, numbers, pack, reply_numbers};
 
 // The judge.
 #[unsafe(no_mangle)]
@@ -68,21 +68,16 @@ pub extern "C" fn prepare(
     ensures value { result ≡ packed (prepare_numbers (read_problem problem.now)) }
     ensures f_after { problem_with p.new m.new n.new orders.new shifts.new f.new ≡ left_after (problem_value (read_problem problem.now)) (problem_with p.old m.old n.old orders.old shifts.old f.old) }
 {
-    let mut its_f = no_columns();
-    let b = prepared::prepare(problem, &mut its_f);
-    if !b.ok {
-        let refusal = b.refusal;
-        return pack(numbers(Verdict::Unread(refusal)));
+    let mut form = no_problem();
+    if let Err(refusal) = prepared::prepare(problem, &mut form) {
+        return pack(numbers(Err(Fault::from(refusal))));
     }
-    let head = b.head;
-    let its_orders = head.orders;
-    let its_shifts = head.shifts;
-    *p = head.p;
-    *m = head.m;
-    *n = head.n;
-    *orders = its_orders;
-    *shifts = its_shifts;
-    *f = its_f;
+    *p = form.head.p;
+    *m = form.head.m;
+    *n = form.head.n;
+    *orders = form.head.orders;
+    *shifts = form.head.shifts;
+    *f = form.f;
     0
 }
 
@@ -99,14 +94,15 @@ pub extern "C" fn judge_prepared(
 ) -> u64
     ensures { JudgedAs (head_with p m n orders.now shifts.now) f.now answer.now result }
 {
-    let orders = *orders;
-    let shifts = *shifts;
-    let head = Head {
-        p,
-        m,
-        n,
-        orders,
-        shifts,
+    let form = Problem {
+        head: Head {
+            p,
+            m,
+            n,
+            orders: *orders,
+            shifts: *shifts,
+        },
+        f: *f,
     };
-    pack(prepared_numbers(judging::judge_prepared(head, f, answer)))
+    pack(prepared_numbers(judging::judge_prepared(&form, answer)))
 }

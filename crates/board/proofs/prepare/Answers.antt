@@ -1,25 +1,21 @@
-use mathlib.Core.Path.{ap, ◌∙◌}
-use borrow.Author.Tests.{not-true, not-false}
-use Rattle.rules.specs.Verdict.{packed}
+use Rattle.std.proofs.Common.{ap, ◌∙◌, Err}
+use Rattle.rules.specs.Verdict.{unread, numbers, packed}
+use Rattle.verdict.specs.Meant.{meant}
 use Rattle.board.specs.Lent.{problem_with, refused_number, refused_left, read_number, read_left}
 use Rattle.board.proofs.prepare.Goals as goal
 
-pub returns-then-not-b : goal.returns-then-not-b
-returns-then-not-b c =
+pub returns-in-Err : goal.returns-in-Err
+returns-in-Err c =
     let a = c.args in
-    let b = c.prepare-b in
     let lent = problem_with a.p.now a.m.now a.n.now a.orders.now a.shifts.now a.f.now in
-    let off = not-true b.result.ok c.if-not-b.true in
+    let off = c.in-Err.ensures.form_after in
     record {
-      value = c.pack.ensures ∙ ap packed (c.numbers.ensures ∙ refused_number a.problem.now b.ensures.f_after lent off);
-      f_after = refused_left a.problem.now b.ensures.f_after lent off;
+      value = c.pack.ensures ∙ ap packed (c.numbers.ensures ∙ ap (λ e. numbers (meant (Err e))) c.from.ensures ∙ refused_number a.problem.now lent off);
+      f_after = refused_left a.problem.now lent off;
     }
 
 -- Where the problem is not refused, it is read.
-pub returns : goal.returns
-returns c =
+pub returns-clause-value : goal.returns-clause-value
+returns-clause-value c =
     let a = c.args in
-    let read = c.prepare-b.ensures.f_after in
-    let lent = problem_with a.p.now a.m.now a.n.now a.orders.now a.shifts.now a.f.now in
-    let on = not-false c.prepare-b.result.ok c.if-not-b.false in
-    record { value = read_number a.problem.now read lent on; f_after = read_left a.problem.now read lent on }
+    read_number a.problem.now (problem_with a.p.now a.m.now a.n.now a.orders.now a.shifts.now a.f.now) c.in_default.ensures.form_after
