@@ -1,7 +1,7 @@
 use Rattle.std.proofs.Common.{ap, ◌∙◌, Err}
-use Rattle.rules.specs.Verdict.{unread, numbers, packed}
+use Rattle.rules.specs.Verdict.{numbers, packed}
 use Rattle.verdict.specs.Meant.{meant}
-use Rattle.board.specs.Lent.{problem_with, refused_number, refused_left, read_number, read_left}
+use Rattle.board.specs.Lent.{problem_with, refused_number, refused_left, read_number}
 use Rattle.board.proofs.prepare.Goals as goal
 
 pub returns-in-Err : goal.returns-in-Err
