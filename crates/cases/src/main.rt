@@ -175,10 +175,8 @@ fn run_bundle(from: &mut impl Read, to: &mut impl Write) -> Result<(), Stop> {
 
 // Runs the bundle that the first argument names.
 fn run(rt: &(impl Env + Files), to: &mut impl Write) -> Result<(), Stop> {
-    match with_argument(rt, 1, |name| File::open(rt, name).ok()) {
-        Some(mut bundle) => run_bundle(&mut bundle, to),
-        None => Err(Stop::BadBundle),
-    }
+    let bundle = with_argument(rt, 1, |name| File::open(rt, name).ok());
+    run_bundle(&mut bundle.ok_or(Stop::BadBundle)?, to)
 }
 
 fn main(rt: HostRuntime) -> io::Result<()> {
