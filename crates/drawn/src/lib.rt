@@ -80,8 +80,8 @@ fn first_value(c: &[u32; SQUARE], u: &[u32], j: usize, p: u32) -> u32
     neg_mod(plus_row(0, u, c, j, ROWS, p), p)
 }
 
-// value: what Horner's rule has. row: m values, below p. f: of a claim. j, k: a column and a power.
-// What it has with the coefficients of F's column at that power, times the values: the next step.
+// value: what Horner's rule has, times the point. row: m values, below p. f: of a claim. j, k: a column and a power.
+// That and the coefficients of F's column at that power, each times its value of the row, modulo p: the next step.
 fn next_value(
     value: u64,
     row: &[u32],
