@@ -119,7 +119,7 @@ pub fn residues(sums: &[u64; CAPACITY], top: usize, p: u32) -> [u32; CAPACITY]
     l
 }
 
-// l: a polynomial in such an array, of at most `bound` coefficients.
+// l: a polynomial in an array of CAPACITY numbers, of at most `bound` coefficients.
 // Their number without the zeros at the end.
 pub fn length_of(l: &[u32; CAPACITY], bound: usize) -> usize
     requires { ZerosFrom (coefficient l.now) bound }
@@ -133,7 +133,7 @@ pub fn length_of(l: &[u32; CAPACITY], bound: usize) -> usize
     0
 }
 
-// l: a polynomial in such an array. length: the number of its coefficients.
+// l: a polynomial in an array of CAPACITY numbers. length: the number of its coefficients.
 // The polynomial, without the zeros in front.
 pub fn unpadded(l: &[u32; CAPACITY], length: usize) -> Polynomial
     ensures { Unpadded l.now length result }

@@ -116,7 +116,8 @@ pub fn read_shift(s: &[u8], q: Place) -> Result<(u32, Place), Stop>
     read_field(s, q, 2, Reason::WrongSize, |v| magnitude(v) <= SHIFT)
 }
 
-// s: the file. q: the place of the k-th coefficient modulo p, counted from 0, of an entry of `length`; with a length of 0, of no entry.
+// s: the file. q: the place of the k-th coefficient modulo p, counted from 0, of an entry with `length`
+// coefficients; with a length of 0, of none whose last one is told from the others.
 // The coefficient and the place after it, or the refusal. The test for 0, of the entry's last coefficient, stands apart: with one test for both,
 // the compiler computes both for each coefficient.
 pub fn read_coefficient(

@@ -1,6 +1,6 @@
 // The determinant of a square of polynomials modulo p, as document 01 says it: "the signed sum of its first row's entries times the
-// determinants of the squares left. It is taken over polynomials, not at points." No square is copied: the entries stay in the one flat
-// array that the caller lends, and a square is the number of its first row and the list of its columns.
+// determinants of the squares left. It is taken over polynomials, not at points." No square is copied: the entries stay in the
+// basis that the caller lends, and a square is its size, the number of its first row and the list of its columns.
 // A polynomial of the work stands in an array as `convolution` has it.
 // Proofs see the sizes of document 01 as numbers, and the places in flat arrays by their rows and columns.
 #![tactic(auto, unfolding(rules::specs::Sizes::most_rows, rules::specs::Sizes::most_length, layout::specs::Flat::square_place, layout::specs::Flat::entry_place, polynomial::specs::Coefficients::most_power))]

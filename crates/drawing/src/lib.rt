@@ -16,14 +16,14 @@ use layout::ROWS;
 use problem_file::read_problem_into;
 use verdict::{Four, Refusal};
 
-// An answer by drawn numbers is no verdict.
+// The answer by drawn numbers, which is no verdict.
 #[derive(Clone, Copy, Debug, PartialEq, Eq)]
 pub enum Drawn {
     MayPass,
     TurnedAway,
 }
 
-// Why there is none.
+// Why there is no answer by drawn numbers.
 #[derive(Clone, Copy, Debug, PartialEq, Eq)]
 pub enum Undrawn {
     // 1 to 8

@@ -1,5 +1,5 @@
-// Whether the rows of a small matrix modulo a prime are dependent, by elimination. The matrix is handed about by value: each step takes it
-// and returns what it leaves.
+// Whether the rows of a small matrix modulo a prime are dependent, by elimination. Each step takes the matrix by value and returns what it
+// leaves; within a step it is lent.
 #![tactic(auto, unfolding(rules::specs::Sizes::most_rows))]
 
 ghost use Rattle.std.specs.Prelude.{◌≡◌, ◌≢◌, ◌<◌, ◌≤◌};
@@ -78,7 +78,7 @@ fn clear_below(a: &mut Grid, p: u32, v: u32, r: usize, c: usize, m: usize, n: us
 
 // a: the matrix, of numbers below p. r, c: the row and the column that the step is at. k: a row from r on, not 0 in column c.
 // The matrix with row k in the place of row r, and column c cleared below it. The last row has none below it: the matrix stays, and no
-// inverse is asked for. That of 0 is never asked for, and the answer is never none.
+// inverse is asked for. Elsewhere it is that of a number other than 0, so that there always is one.
 fn step(mut a: Grid, p: u32, r: usize, c: usize, k: usize, m: usize, n: usize) -> Grid
     requires prime { Prime p }
     requires below { Below p a }

@@ -36,7 +36,7 @@ fn read_steps(text: &str) -> Option<u32> {
     }
 }
 
-// Makes the answer in `file`. After a success it has no more bytes than there are.
+// Makes the answer in `file`. After a success no more bytes are counted than `file` has.
 fn made(problem: &[u8], steps: u32, file: &mut [u8]) -> Result<Made, Unwritten>
     ensures result_value { basis_meant result ≡ (make_basis problem.now steps file.old).answer }
     ensures file_after { file.new ≡ (make_basis problem.now steps file.old).buffer }
@@ -45,7 +45,7 @@ fn made(problem: &[u8], steps: u32, file: &mut [u8]) -> Result<Made, Unwritten>
     basis_file(problem, steps, file)
 }
 
-// Has a file on disk keep what was written to it, which closing it does not tell. Nothing more is asked of a pipe or a device.
+// Asks the disk to keep what was written to a file on it, since closing a file does not tell whether it is kept. Nothing more is asked of a pipe or a device.
 fn keep(file: &impl OpenFile) -> io::Result<()> {
     if file.metadata()?.is_file() {
         file.sync_all()

@@ -29,7 +29,7 @@ pub struct Choice {
 
 // work: the rows that wait, eliminated. taken: the rows that do not. i: one of those, and its residual in column c is not 0, so that it has
 // an inverse.
-// Takes row i from each row that waits, so that it is 0 in column c.
+// Takes row i from each row that waits, so that this one is 0 in column c.
 fn clear_by(work: &mut Work, taken: &[bool; ROWS], i: usize, c: usize, p: u32, m: usize)
     requires prime { Prime p }
     requires full { Full work.old.residuals × Full work.old.constants }

@@ -56,7 +56,7 @@ fn order_fault(problem: &Problem, modulus: Modulus, answer: &Answer, i: usize, j
 }
 
 // m, n: how many rows and columns. fault: whether the place in a row and a column has a fault.
-// "the first row that has a fault and in it the first column": no test of a place outside the m rows and the n columns counts.
+// "the first row that has a fault and in it the first column", of the m rows and the n columns.
 fn first_place<F: Fn(usize, usize) -> bool>(m: usize, n: usize, fault: F) -> Option<(usize, usize)>
     requires { (i j : ℕ) → i < m → j < n → F.pre fault i j }
     ensures { (faults : ℕ → ℕ → Bool) → ((i j : ℕ) (r : Bool) → i < m → j < n → F.post fault i j r → r ≡ faults i j) → result ≡ first_place m n faults }

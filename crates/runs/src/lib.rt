@@ -9,7 +9,8 @@ ghost use Rattle.runs.specs.Rows.{run_stored, block_stored};
 use cursor::read_coefficient;
 use place::{Place, Stop};
 
-// s: the file. q: the place of the first of `count` coefficients modulo p. last: the count at which one may not be 0, or 0. out: where they go, from `base` on.
+// s: the file. q: the place of the first of `count` coefficients modulo p. last: the count at which the last one may
+// not be 0, or 0 where each may be. out: where they go, from `base` on.
 // How the reading goes on after them. After a refusal what was read before stands there.
 pub fn run(
     s: &[u8],
