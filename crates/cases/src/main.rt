@@ -5,7 +5,7 @@
 // What is printed is tested.
 #![tactic(auto)]
 
-ghost use Rattle.std.specs.Prelude.{◌*◌, ◌≤◌, IfOk, length};
+ghost use Rattle.std.specs.Prelude.{◌*◌, ◌≤◌, ◌<◌, IfOk, length};
 ghost use Rattle.cases.specs.Limits.{longest, most_lent, chunk};
 
 use line::{line, put_numbers};
@@ -30,9 +30,6 @@ const HEAD: usize = 64;
 // So many bytes are written in hex at a time.
 const CHUNK: usize = 2048;
 
-// The digits of hex, in lower case.
-const DIGITS: [u8; 16] = *b"0123456789abcdef";
-
 // Why no more cases are run.
 #[derive(Drop)]
 enum Stop {
@@ -48,13 +45,20 @@ impl From<io::Error> for Stop {
     }
 }
 
+// The digit of `d` in hex, in lower case. It is worked out, so that many bytes are spelled at once: a table is read byte by byte.
+fn glyph(d: u8) -> u8
+    requires { d < 16 }
+{
+    if d < 10 { b'0' + d } else { b'a' - 10 + d }
+}
+
 // Puts the two digits of each byte at the front of `out`.
 fn spell(bytes: &[u8], out: &mut [u8])
     requires { length bytes.now * 2 ≤ length out.old }
 {
     for (pair, b) in out.chunks_exact_mut(2).zip(bytes) {
-        pair[0] = DIGITS[usize::from(*b / 16)];
-        pair[1] = DIGITS[usize::from(*b % 16)];
+        pair[0] = glyph(*b / 16);
+        pair[1] = glyph(*b % 16);
     }
 }
 
@@ -67,12 +71,17 @@ fn write_chunk(to: &mut impl Write, bytes: &[u8]) -> io::Result<()>
     to.write_all(&text[..2 * bytes.len()])
 }
 
-// Writes a line: `head`, and after a space `bytes` in hex, or nothing more where there are none.
-fn write_bytes(to: &mut impl Write, head: &[u8], bytes: &[u8]) -> io::Result<()> {
-    to.write_all(head)?;
-    if !bytes.is_empty() {
-        to.write_all(b" ")?;
+// Writes a line: the first `end` bytes of `head`, and after a space `bytes` in hex, or nothing more where there are none. What stands before
+// the hex is written at once: the output has no buffer.
+fn write_bytes(to: &mut impl Write, head: &mut [u8], end: usize, bytes: &[u8]) -> io::Result<()>
+    requires { end < length head.old }
+{
+    if bytes.is_empty() {
+        let end = put_text(head, end, b"\n");
+        return to.write_all(&head[..end]);
     }
+    let end = put_text(head, end, b" ");
+    to.write_all(&head[..end])?;
     for chunk in bytes.chunks(CHUNK) {
         write_chunk(to, chunk)?;
     }
@@ -94,7 +103,7 @@ fn write_part(to: &mut impl Write, part: &[u8]) -> io::Result<()>
     let mut head = [0; HEAD];
     let word = put_text(&mut head, 0, b"part ");
     let end = put_number(&mut head, word, part.len() as u32);
-    write_bytes(to, &head[..end], part)
+    write_bytes(to, &mut head, end, part)
 }
 
 // The line for the evidence that is made in the bytes lent.
@@ -108,7 +117,7 @@ fn write_evidence(
     let mut head = [0; HEAD];
     let word = put_text(&mut head, 0, b"evidence ");
     let end = put_numbers(&mut head, word, reply_numbers(reply));
-    write_bytes(to, &head[..end], lent)
+    write_bytes(to, &mut head, end, lent)
 }
 
 // The three lines of a case. Each of the bytes lent is 170.
@@ -132,12 +141,10 @@ fn fill(from: &mut impl Read, out: &mut [u8]) -> Result<(), Stop> {
     from.read_exact(out).map_err(|_| Stop::BadBundle)
 }
 
-// Reads a number of the bundle, which may be at most `most`.
-fn number(from: &mut impl Read, most: usize) -> Result<usize, Stop>
+// The number of four bytes, which may be at most `most`.
+fn number(bytes: [u8; 4], most: usize) -> Result<usize, Stop>
     ensures { IfOk result (λ n. n ≤ most) }
 {
-    let mut bytes = [0; 4];
-    fill(from, &mut bytes)?;
     let n = u32::from_le_bytes(bytes) as usize;
     if n > most {
         Err(Stop::BadBundle)
@@ -152,10 +159,15 @@ fn run_case(
     to: &mut impl Write,
     problem: &mut [u8; LONGEST],
     answer: &mut [u8; LONGEST],
-) -> Result<(), Stop> {
-    let m = number(from, LONGEST)?;
-    let n = number(from, LONGEST)?;
-    let lent = number(from, MOST_LENT)?;
+) -> Result<(), Stop>
+    requires { (longest ≤ length problem.old) × (longest ≤ length answer.old) }
+{
+    // At once, since the bundle is read without a buffer.
+    let mut numbers = [[0; 4]; 3];
+    fill(from, numbers.as_flattened_mut())?;
+    let m = number(numbers[0], LONGEST)?;
+    let n = number(numbers[1], LONGEST)?;
+    let lent = number(numbers[2], MOST_LENT)?;
     fill(from, &mut problem[..m])?;
     fill(from, &mut answer[..n])?;
     write_case(to, &problem[..m], &answer[..n], lent)?;
@@ -164,10 +176,11 @@ fn run_case(
 
 // Runs the bundle that is open.
 fn run_bundle(from: &mut impl Read, to: &mut impl Write) -> Result<(), Stop> {
-    let count = number(from, u32::MAX as usize)?;
+    let mut count = [0; 4];
+    fill(from, &mut count)?;
     let mut problem = [0; LONGEST];
     let mut answer = [0; LONGEST];
-    for _ in 0..count {
+    for _ in 0..u32::from_le_bytes(count) {
         run_case(from, to, &mut problem, &mut answer)?;
     }
     Ok(())

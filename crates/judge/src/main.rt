@@ -8,9 +8,8 @@ ghost use Rattle.writer.specs.Appended.{Appended};
 ghost use Rattle.line.specs.Text.{room};
 
 use judging::judge_files;
-use layout::READ_LIMIT;
 use line::line;
-use loading::{load, write_line, write_nofile};
+use loading::{file_room, load, write_line, write_nofile};
 use std::env::Env;
 use std::io;
 use std::rt::Files;
@@ -31,7 +30,7 @@ fn judge(rt: &impl Print, problem: &[u8], answer: &[u8]) -> io::Result<()> {
 
 // Judges the answer that the second argument names.
 fn with_problem(rt: &(impl Env + Files + Print), problem: &[u8]) -> io::Result<()> {
-    let mut answer = [0; READ_LIMIT];
+    let mut answer = file_room();
     match load(rt, 2, &mut answer) {
         Some(n) => judge(rt, problem, &answer[..n]),
         None => write_nofile(&mut io::writer(rt), 1),
@@ -39,7 +38,7 @@ fn with_problem(rt: &(impl Env + Files + Print), problem: &[u8]) -> io::Result<(
 }
 
 fn main(rt: HostRuntime) -> io::Result<()> {
-    let mut problem = [0; READ_LIMIT];
+    let mut problem = file_room();
     match load(&rt, 1, &mut problem) {
         Some(n) => with_problem(&rt, &problem[..n]),
         None => write_nofile(&mut io::writer(&rt), 0),

@@ -1,12 +1,15 @@
-// What the programs share: a file that an argument names is loaded into a lent buffer, and a line is written.
+// What the programs share: room for a file, a file that an argument names loaded into lent room, and a line written.
 // What stands in an argument or in a file, and what is taken of a line, no clause says: that is tested.
 #![tactic(auto)]
 
-ghost use Rattle.std.specs.Prelude.{◌≤◌, length, Some, IfSome, OnOk};
+ghost use Rattle.std.specs.Prelude.{◌≡◌, ◌≤◌, length, Some, IfSome, OnOk};
 ghost use Rattle.std.specs.Io.KnownBytes.{Appends};
+ghost use Rattle.rules.specs.Sizes.{read_limit};
 ghost use Rattle.rules.specs.Print.{nofile_line};
+ghost use Rattle.layout.specs.Flat.{filled};
 ghost use Rattle.loading.specs.Lines.{longest_name, PutsLine, WritesLine};
 
+use layout::READ_LIMIT;
 use line::{ROOM, nofile};
 use std::env::Env;
 use std::fs::File;
@@ -16,6 +19,14 @@ use std::rt::Files;
 
 // Longer than any name that the system takes.
 const ARGUMENT_ROOM: usize = 4096;
+
+// Room for as much of a file as is read, and so for every answer.
+#[tactic(auto, unfolding(rules::specs::Sizes::read_limit, layout::specs::Flat::filled))]
+pub fn file_room() -> [u8; READ_LIMIT]
+    ensures { result ≡ filled read_limit 0 }
+{
+    [0; READ_LIMIT]
+}
 
 // Gives what `then` makes of the text of argument `i`, and nothing where the argument is missing, longer than any name or no text.
 pub fn with_argument<T, F: FnOnce(&str) -> Option<T>>(rt: &impl Env, i: usize, then: F) -> Option<T>

@@ -1,8 +1,8 @@
 -- What the program does with an answer that is made.
 --   made_line                the line that is printed: the steps done, and the bytes
---   made_fits                after a success the bytes to write are no more than there are
+--   made_fits, answer_fits   after a success the bytes to write are no more than there are
 use Rattle.std.specs.Prelude.{◌≡◌, refl, Bool, true, false, List, [], ◌∷◌, ◌++◌, ℕ, ◌≤◌, leb, length, drop, Result, Ok, Err, IfOk}
-use Rattle.std.proofs.Common.{sym, ap, subst, arith, length-append}
+use Rattle.std.proofs.Common.{sym, ap, subst, ◌∙◌, arith, length-append}
 use Rattle.rules.specs.Claim.{Problem}
 use Rattle.rules.specs.Reader.{Refusal, Result as Reading, refused, got, front}
 use Rattle.rules.specs.Files.{read_problem}
@@ -11,7 +11,9 @@ use Rattle.rules.specs.Verdict.{Numbers}
 use Rattle.rules.specs.MakeBasis.{basis_unread, basis_no_room, basis_made, basis_numbers, MadeBasis, made_file, make_basis}
 use Rattle.rules.specs.Print.{digits, space}
 use Rattle.laws.specs.Soundness.{sound_problem}
+use Rattle.verdict.specs.declared.Four.{Four}
 use Rattle.verdict.specs.declared.Unwritten.{Unwritten}
+use Rattle.verdict.specs.Meant.{four_of}
 use Rattle.basis_making.specs.declared.Made.{Made}
 use Rattle.basis_making.specs.Meant.{basis_meant}
 
@@ -59,11 +61,19 @@ made_within : (s : List ℕ) (steps : ℕ) (lent : List ℕ) → Fits (make_basi
 unfolding make_basis read_problem
 made_within s steps lent = by_reading steps lent (read_problem s) (λ r e. (sound_problem.refuses s (front 0) e).code_least)
 
--- So it is with the answer and the buffer of the code.
-pub made_fits : (s : List ℕ) (steps : ℕ) (lent after : List ℕ) (r : Result Made Unwritten) → basis_meant r ≡ (make_basis s steps lent).answer
+-- So it is with the four numbers and the buffer of the code, …
+pub made_fits : (s : List ℕ) (steps : ℕ) (lent after : List ℕ) (f : Four) → four_of f ≡ basis_numbers (make_basis s steps lent).answer
+    → after ≡ (make_basis s steps lent).buffer → f.code ≡ 0 → f.at ≤ length after
+made_fits s steps lent after f e b z =
+    subst (λ l. f.at ≤ length l) (sym b)
+    (subst (λ n. n ≤ length (make_basis s steps lent).buffer) (sym (ap (λ (n : Numbers). n.at) e))
+    (made_within s steps lent (sym (ap (λ (n : Numbers). n.code) e) ∙ z)))
+
+-- … and with its answer.
+pub answer_fits : (s : List ℕ) (steps : ℕ) (lent after : List ℕ) (r : Result Made Unwritten) → basis_meant r ≡ (make_basis s steps lent).answer
     → after ≡ (make_basis s steps lent).buffer → IfOk r (λ made. made.bytes ≤ length after)
 unfolding basis_numbers
-made_fits s steps lent after (Ok made) e b =
+answer_fits s steps lent after (Ok made) e b =
     subst (λ l. made.bytes ≤ length l) (sym b)
     (subst (λ (n : Numbers). n.code ≡ 0 → n.at ≤ length (make_basis s steps lent).buffer) (sym (ap basis_numbers e)) (made_within s steps lent) refl)
-made_fits s steps lent after (Err reason) e b = tt
+answer_fits s steps lent after (Err reason) e b = tt

@@ -2,17 +2,17 @@
 // The answer and the lines are proved; that they are written and printed is tested.
 #![tactic(auto)]
 
-ghost use Rattle.std.specs.Prelude.{◌≡◌, ◌≤◌, IfOk, length};
-ghost use Rattle.rules.specs.MakeBasis.{make_basis};
+ghost use Rattle.std.specs.Prelude.{◌≡◌, ◌≤◌, Err, IfOk, length};
+ghost use Rattle.rules.specs.MakeBasis.{make_basis, basis_numbers};
+ghost use Rattle.rules.specs.Print.{line_of};
 ghost use Rattle.writer.specs.Appended.{Appended};
 ghost use Rattle.line.specs.Text.{room};
 ghost use Rattle.basis_making.specs.Meant.{basis_meant};
 ghost use Rattle.make.specs.Made.{made_line};
 
 use basis_making::{Made, basis_file, basis_numbers};
-use layout::READ_LIMIT;
 use line::line;
-use loading::{load, with_argument, write_line, write_nofile};
+use loading::{file_room, load, with_argument, write_line, write_nofile};
 use std::env::{Env, FillError};
 use std::fs::{File, OpenFile};
 use std::io;
@@ -78,22 +78,30 @@ fn put_made(made: Made, out: &mut [u8]) -> usize
     put_text(out, bytes, b"\n")
 }
 
+// Puts the line for a refusal, with its four numbers, at the front of `out` and gives its length.
+fn put_refused(reason: Unwritten, out: &mut [u8]) -> usize
+    requires { room ≤ length out.old }
+    ensures { Appended out.old out.new 0 result (line_of (basis_numbers (basis_meant (Err reason)))) }
+{
+    line(basis_numbers(Err(reason)), out)
+}
+
 // Makes the answer to a problem. The file is opened only after a success.
 fn make(rt: &(impl Env + Files + Print), problem: &[u8], steps: u32) -> io::Result<()> {
     let mut to = io::writer(rt);
-    let mut file = [0; READ_LIMIT];
+    let mut file = file_room();
     match made(problem, steps, &mut file) {
         Ok(made) => match save(rt, &file[..made.bytes as usize]) {
             Some(()) => write_line(&mut to, |out| put_made(made, out)),
             None => write_nofile(&mut to, 1),
         },
-        Err(reason) => write_line(&mut to, |out| line(basis_numbers(Err(reason)), out)),
+        Err(reason) => write_line(&mut to, |out| put_refused(reason, out)),
     }
 }
 
 // Makes the answer to the problem that the first argument names.
 fn with_steps(rt: &(impl Env + Files + Print), steps: u32) -> io::Result<()> {
-    let mut problem = [0; READ_LIMIT];
+    let mut problem = file_room();
     match load(rt, 1, &mut problem) {
         Some(n) => make(rt, &problem[..n], steps),
         None => write_nofile(&mut io::writer(rt), 0),
