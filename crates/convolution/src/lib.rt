@@ -138,10 +138,10 @@ pub fn length_of(l: &[u32; CAPACITY], bound: usize) -> usize
 pub fn unpadded(l: &[u32; CAPACITY], length: usize) -> Polynomial
     ensures { Unpadded l.now length result }
 {
-    let mut coefficients = [0; COEFFICIENTS];
-    coefficients.copy_from_slice(&l[2..COEFFICIENTS + 2]);
-    Polynomial {
-        coefficients,
+    let mut f = Polynomial {
+        coefficients: [0; COEFFICIENTS],
         length,
-    }
+    };
+    f.coefficients.copy_from_slice(&l[2..COEFFICIENTS + 2]);
+    f
 }

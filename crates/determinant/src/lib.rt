@@ -8,6 +8,7 @@
 ghost use Rattle.std.specs.Prelude.{◌≡◌, ◌+◌, ◌≤◌, ◌<◌};
 ghost use Rattle.algebra.specs.Residue.{K};
 ghost use Rattle.algebra.proofs.Series.{Series};
+ghost use Rattle.algebra.specs.Sum.{skip};
 ghost use Rattle.algebra.specs.Det.{det};
 ghost use Rattle.rules.specs.Sizes.{most_rows, most_length};
 ghost use Rattle.field.specs.Modulus.{Made};
@@ -84,14 +85,23 @@ fn entry_length(basis: &Basis, i: usize, j: usize) -> usize
     basis.lengths[square_place(i, j)]
 }
 
+// The k-th of the numbers other than j.
+fn other(j: usize, k: usize) -> usize
+    requires { k < most_rows }
+    ensures { result ≡ skip j k }
+{
+    if k < j { k } else { k + 1 }
+}
+
 // columns: the columns of a square. j: the number of one of them in that list.
-// The others, in order, and behind them that one.
+// The others, in order. One by one: the library's `rotate_left` needs a function of the C library that nothing else in the archive needs.
 fn without(columns: &[usize; ROWS], j: usize) -> [usize; ROWS]
-    requires { j < most_rows }
     ensures { Without j columns.now result }
 {
-    let mut left = *columns;
-    left[j..].rotate_left(1);
+    let mut left = [0; ROWS];
+    for k in 0..ROWS - 1 {
+        left[k] = columns[other(j, k)];
+    }
     left
 }
 
