@@ -1,6 +1,6 @@
 -- What the code finds, and what the tests over the arrays say of the claim that they stand for: one law for each code.
 --   found                    what a test of the code found, in the words of the rules
---   fault_place, fault_found       the place that a search found
+--   fault_place, fault_within, fault_found    the place that a search found
 --   found-…                  the verdict of a code, where its test over the arrays says so, applies to the claim
 --   Tried                    no code before this one applies
 use Rattle.std.specs.Prelude.{◌≡◌, Bool, true, false, not, ℕ, suc, ◌+◌, ◌-◌, ◌≤◌, ◌<◌, ℤ}
@@ -39,10 +39,14 @@ found (Err fault) = Some (meant (Err fault))
 
 -- The place that a search found is a row and a column, and the fault that is found there is the one of that place.
 module _ (m n : ℕ) (faults : ℕ → ℕ → Bool) where
-  pub fault_place : (bound : ℕ) → m ≤ bound → n ≤ bound → (place : Option (ℕ × ℕ)) → place ≡ first_place m n faults
+  pub fault_place : (place : Option (ℕ × ℕ)) → place ≡ first_place m n faults → IfSome place (λ at. (at.0 < m) × (at.1 < n))
+  fault_place None e = tt
+  fault_place (Some (i, j)) e = let f = (first_place_some m n faults i j).0 (sym e) in (f.row, f.column)
+
+  pub fault_within : (bound : ℕ) → m ≤ bound → n ≤ bound → (place : Option (ℕ × ℕ)) → place ≡ first_place m n faults
       → IfSome place (λ at. (at.0 < bound) × (at.1 < bound))
-  fault_place bound hm hn None e = tt
-  fault_place bound hm hn (Some (i, j)) e = let f = (first_place_some m n faults i j).0 (sym e) in (omega (arith, f.row), omega (arith, f.column))
+  fault_within bound hm hn None e = tt
+  fault_within bound hm hn (Some (i, j)) e = let f = fault_place (Some (i, j)) e in (omega (arith, f.0), omega (arith, f.1))
 
   pub fault_found : (v : ℕ → ℕ → Verdict) (place : Option (ℕ × ℕ)) → place ≡ first_place m n faults → (r : Result (Unit {0}) Fault)
       → MatchOption place (r ≡ Ok tt) (λ at. (fault : Fault) × (r ≡ Err fault) × (meant (Err fault) ≡ v at.0 at.1))

@@ -2,7 +2,8 @@
 --   too_large_at             the number drawn at a place is p or more
 --   Judged                   the rules' answer on the claim that they stand for
 --   JudgedIn                 the same of the code's structs, whole
---   judged_too_large, judged_by_columns      what it is in each case
+--   judged_too_large, judged_by_columns      what it is in each case, by the numbers drawn
+--   judged_at_place, judged_at_none          the same by what the search finds
 --   first_of_all             the first number that is too large, as the code finds it
 use Rattle.std.specs.Prelude.{◌≡◌, refl, Bool, true, false, List, ℕ, suc, ◌+◌, ◌≤◌, ◌<◌, leb, get_or, length, take, MatchOption}
 use Rattle.std.proofs.Math.Path.{sym, ap}
@@ -23,6 +24,7 @@ use Rattle.claim.specs.declared.Problem.{Problem as ProblemStruct}
 use Rattle.claim.specs.declared.Answer.{Answer as AnswerStruct}
 use Rattle.claim.specs.Claims.{problem_of, basis_of, constants_of, claim_of}
 use Rattle.claim.specs.Sound.{SoundBasis}
+use Rattle.product.specs.Search.{First}
 use Rattle.drawn.specs.Sums.{FirstBelow}
 
 -- The number drawn at a place is p or more.
@@ -62,12 +64,21 @@ unfolding first_too_large
 place_at_most p m u point place e =
     let first = (first_below_some (suc m) (too_large_at p m u point) place).0 (sym e) in omega (arith, first.0)
 
--- No number is too large: all that are read are below p.
-module _ (p m : ℕ) (u : List ℕ) (point : ℕ) (none : None ≡ first_too_large p m u point) where
-  small : (place : ℕ) → place < m + 1 → too_large_at p m u point place ≡ false
-  unfolding first_too_large
-  small place h = (first_below_none (suc m) (too_large_at p m u point)).0 (sym none) place (omega arith)
+-- What the search finds is the first of them, …
+pub too_large_first : (p m : ℕ) (u : List ℕ) (point place : ℕ) → Some place ≡ first_too_large p m u point → First (m + 1) (too_large_at p m u point) place
+unfolding first_too_large
+too_large_first p m u point place e =
+    let first = (first_below_some (suc m) (too_large_at p m u point) place).0 (sym e) in
+    record { at_most = omega (arith, first.0); before = first.2; passes = λ h. first.1 }
 
+-- … and none that is read is too large, where it finds none.
+pub none_too_large : (p m : ℕ) (u : List ℕ) (point : ℕ) → None ≡ first_too_large p m u point
+    → (place : ℕ) → place < m + 1 → too_large_at p m u point place ≡ false
+unfolding first_too_large
+none_too_large p m u point none place h = (first_below_none (suc m) (too_large_at p m u point)).0 (sym none) place (omega arith)
+
+-- No number is too large: all that are read are below p.
+module _ (p m : ℕ) (u : List ℕ) (point : ℕ) (small : (place : ℕ) → place < m + 1 → too_large_at p m u point place ≡ false) where
   pub u_below_all : FirstBelow m p u
   u_below_all i h = subst (λ x. x < p) (at_u m u point i h) (leb-false p (drawn_number m u point i) (small i (omega arith)))
 
@@ -86,14 +97,32 @@ module _ (head : Head) (f lengths entries c u : List ℕ) (point : ℕ) where
   columns = every_column_zero (problem_of head f) (basis_of head.m lengths entries) (constants_of head.m head.n c) u point
 
   -- 16, with the place of the first number that is too large, …
-  pub judged_too_large : (place : ℕ) → Some place ≡ first_too_large head.p head.m u point → too_large place ≡ answer
-  unfolding judge_drawn_claim
-  judged_too_large place e = ap (λ o. by_tests o columns) e
+  pub judged_too_large : (place : ℕ) → First (head.m + 1) (too_large_at head.p head.m u point) place → place ≤ head.m
+      → too_large place ≡ answer
+  unfolding judge_drawn_claim first_too_large
+  judged_too_large place first h =
+      sym
+      (ap (λ o. by_tests o columns)
+      ((first_below_some (suc head.m) (too_large_at head.p head.m u point) place).1
+      (omega arith, first.passes (omega arith), first.before)))
 
   -- … or, where there is none, "may pass" exactly when every column gives 0.
-  pub judged_by_columns : (r : Bool) → None ≡ first_too_large head.p head.m u point → r ≡ columns → cond r may_pass turned_away ≡ answer
-  unfolding judge_drawn_claim
-  judged_by_columns r none e = ap (λ b. cond b may_pass turned_away) e ∙ ap (λ o. by_tests o columns) none
+  pub judged_by_columns : (r : Bool) → ((place : ℕ) → place < head.m + 1 → too_large_at head.p head.m u point place ≡ false) → r ≡ columns
+      → cond r may_pass turned_away ≡ answer
+  unfolding judge_drawn_claim first_too_large
+  judged_by_columns r small e =
+      ap (λ b. cond b may_pass turned_away) e
+      ∙ sym
+      (ap (λ o. by_tests o columns)
+      ((first_below_none (suc head.m) (too_large_at head.p head.m u point)).1 (λ place h. small place (omega arith))))
+
+  -- The same by what the search finds.
+  pub judged_at_place : (place : ℕ) → Some place ≡ first_too_large head.p head.m u point → too_large place ≡ answer
+  judged_at_place place e =
+      judged_too_large place (too_large_first head.p head.m u point place e) (place_at_most head.p head.m u point place e)
+
+  pub judged_at_none : (r : Bool) → None ≡ first_too_large head.p head.m u point → r ≡ columns → cond r may_pass turned_away ≡ answer
+  judged_at_none r none e = judged_by_columns r (none_too_large head.p head.m u point none) e
 
 -- THE SEARCH
 

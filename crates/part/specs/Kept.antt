@@ -1,31 +1,35 @@
 -- Steps of the parts that no proof cites now; they stand because they were stated.
 --   read_rows .. read_ordered        what the code's problem holds where the file is read
+--   column_found                     the `FC` record of any column, by the numbers of the code's problem
 --   column_rows .. column_ordered    the same of a problem that has the column
 --   evidence_rows, evidence_few      the same where the code is 12
 --   within_first .. within_most      which file, and that its bytes can be counted
 --   part_in_problem, part_in_answer  bytes cut out of a file are the part
 use Rattle.std.specs.Prelude.{◌≡◌, ◌≢◌, Bool, true, false, List, eqb, length, drop, Ok}
-use Rattle.std.proofs.Math.Path.{sym, ap, subst}
+use Rattle.std.proofs.Math.Path.{refl, sym, ap, ap₂, subst}
 use Rattle.std.proofs.Common.{◌∙◌, arith, eq-eqb, ne_eqb}
 use Rattle.std.proofs.Math.Bool.{cond}
 use Prim.Native.Nat.{ℕ, ◌+◌, ◌-◌, ◌*◌, ◌≤◌, ◌<◌}
 use Rattle.std.proofs.Math.ListN.{get_or, take}
 use Rattle.std.specs.Borrow.{Bor}
 use Rattle.rules.specs.Sizes.{most_rows}
+use Rattle.rules.specs.RecordBytes.{head_bytes, column_bytes}
 use Rattle.rules.specs.Claim.{Problem}
 use Rattle.rules.specs.Reader.{Place, got}
 use Rattle.rules.specs.Files.{read_problem}
 use Rattle.rules.specs.Matrices.{order}
+use Rattle.rules.specs.Conditions.{sum_below}
 use Rattle.rules.specs.Verdict.{numbers, verdict}
-use Rattle.rules.specs.Part.{part_bytes}
+use Rattle.rules.specs.Part.{Part, column_size, column_start, part_bytes}
 use Rattle.laws.specs.Ranges.{problem_valid, claim_got}
+use Rattle.laws.specs.SumLaws.{sum_below_cong}
 use Rattle.laws.specs.WriterLaws.{rectangle_most}
 use Rattle.layout.specs.Holds.{Ordered}
 use Rattle.storing.specs.Arrays.{list_at}
 use Rattle.claim.specs.declared.Problem.{Problem as ProblemStruct}
 use Rattle.problem_file.specs.Values.{problem_value, problem_arrays}
 use Rattle.part.specs.Parts.{PartIn, HasColumn}
-use Rattle.part.specs.Steps.{read_of_code}
+use Rattle.part.specs.Steps.{same_part, read_of_code}
 
 module _ (s : List ℕ) (x : ProblemStruct) (h : (Ok tt, x) ≡ problem_value (read_problem s)) {b : Problem} {q : Place} (e : read_problem s ≡ got b q) where
   as_read : x ≡ problem_arrays b
@@ -45,6 +49,17 @@ module _ (s : List ℕ) (x : ProblemStruct) (h : (Ok tt, x) ≡ problem_value (r
 
   pub read_ordered : Ordered x.head.orders
   read_ordered k = omega (arith, read_order k, (problem_valid s e).order_most k)
+
+  pub column_found : (j start size : ℕ)
+      → start ≡ head_bytes x.head.m x.head.n + sum_below j (λ k. column_bytes x.head.m (get_or x.head.orders k 0))
+      → size ≡ column_bytes x.head.m (get_or x.head.orders j 0)
+      → ◌≡◌ {A = Part} (record { file = 0; start = start; size = size }) (record { file = 0; start = column_start b j; size = column_size b j })
+  unfolding column_start column_size
+  column_found j start size hs hk =
+      let each : (k : ℕ) → column_bytes x.head.m (get_or x.head.orders k 0) ≡ column_size b k = λ k. ap₂ column_bytes read_rows (read_order k) in
+      same_part refl
+      (hs ∙ ap₂ ◌+◌ (ap₂ head_bytes read_rows read_columns) (sum_below_cong j _ _ (λ k below. each k)))
+      (hk ∙ each j)
 
   rows_are_small : x.head.m ≤ most_rows
   rows_are_small = omega (arith, read_rows, (problem_valid s e).rows_most)
