@@ -16,7 +16,7 @@ use answer_file::read_answer_into;
 use claim::{Problem, no_answer, no_problem};
 use conditions::conditions;
 use prepared::{given, prepare};
-use verdict::{Four, Verdict, numbers};
+use verdict::{Fault, Four, Verdict, numbers};
 
 // 20: no problem file gives the form.
 #[derive(Clone, Copy, Debug, PartialEq, Eq)]
@@ -69,6 +69,8 @@ pub fn judge_files(problem: &[u8], answer: &[u8]) -> Verdict
     ensures { meant result ≡ verdict problem.now answer.now }
 {
     let mut read = no_problem();
-    prepare(problem, &mut read)?;
+    if let Err(refusal) = prepare(problem, &mut read) {
+        return Err(Fault::Unread(refusal));
+    }
     judge_answer(&read, answer)
 }
