@@ -153,7 +153,8 @@ fn number(bytes: [u8; 4], most: usize) -> Result<usize, Stop>
     }
 }
 
-// Runs the next case, for whose files there is room.
+// problem, answer: room for the longest file of a case, each.
+// Runs the next case.
 fn run_case(
     from: &mut impl Read,
     to: &mut impl Write,
